@@ -1,0 +1,6 @@
+pub mod Tests
+pub mod Changes
+pub mod Sums
+pub mod Elements
+pub mod Pairs
+pub mod Counting

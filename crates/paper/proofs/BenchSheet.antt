@@ -1,0 +1,13 @@
+-- The definitions give what document 01's bench sheet says, line by line.
+use mathlib.Core.Path.{_≡_, refl}
+use mathlib.Core.List.{List, map}
+use Prim.Native.Nat.{ℕ}
+use Rattle.paper.specs.Vectors.{Vector, answerOf, benchSheet, ownSheet}
+
+pub bench-sheet : map (λ v. answerOf (v .question)) benchSheet ≡ map (λ v. v .answer) benchSheet
+unfolding answerOf benchSheet
+bench-sheet = refl
+
+pub own-sheet : map (λ v. answerOf (v .question)) ownSheet ≡ map (λ v. v .answer) ownSheet
+unfolding answerOf ownSheet
+own-sheet = refl

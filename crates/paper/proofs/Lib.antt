@@ -1,0 +1,2 @@
+pub mod BenchSheet
+pub mod Ranks

@@ -1,0 +1,16 @@
+pub mod Sizes
+pub mod Refusals
+pub mod Numbers
+pub mod Tables
+pub mod Runs
+pub mod Rules
+pub mod Steps
+pub mod Files
+pub mod Reached
+pub mod Replies
+pub mod Alike
+pub mod Ends
+pub mod Maps
+pub mod Counts
+pub mod Programs
+pub mod Vectors

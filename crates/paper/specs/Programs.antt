@@ -1,0 +1,125 @@
+-- The map program: its draws, the place it takes, the run it makes, and what it prints, as bytes.
+use mathlib.Core.Bool.{Bool, true, false}
+use mathlib.Core.List.{List, [], _∷_, _++_}
+use mathlib.Core.Option.{Option, none, some}
+use Prim.Native.Nat.{ℕ, zero, suc, _+_, _*_, _/_, _%_}
+use lib.Dec.{ltb}
+use lib.ListN.{length}
+use Rattle.base.specs.Choice.{pick}
+use Rattle.paper.specs.Tables.{Table}
+use Rattle.paper.specs.Runs.{State, Run, initial}
+use Rattle.paper.specs.Steps.{Outcome, refused, done, step, waitsAt}
+use Rattle.paper.specs.Files.{File, Read, got, fault, readFile}
+use Rattle.paper.specs.Maps.{Look, openLook, recordLook, Row, mapRow}
+use Rattle.paper.specs.Counts.{mostSteps}
+
+-- "x starts at 1 and becomes 1664525x + 1013904223, wrapping at 2^32"
+abbrev pub firstState : ℕ
+firstState = 1
+
+unfoldable pub nextState : ℕ → ℕ
+nextState x = (1664525 * x + 1013904223) % 4294967296
+
+-- "the place is x divided by 65,536, remainder by the pending count"
+unfoldable pub drawnPlace : ℕ → ℕ → ℕ
+drawnPlace x n = x / 65536 % n
+
+-- the first of k places from i on, going round n, that does not wait; n where all do
+abbrev pub readyFrom : Table → Run → ℕ → ℕ → ℕ → ℕ
+readyFrom t r n zero i = n
+readyFrom t r n (suc k) i = elim (waitsAt t r i) [ true ↦ readyFrom t r n k ((i + 1) % n) | false ↦ i ]
+
+-- "If that place waits it takes the first one after it, going round, that does not."
+unfoldable pub readyPlace : Table → Run → ℕ → ℕ
+unfolding waitsAt
+readyPlace t r i = readyFrom t r (length (r .pending)) (length (r .pending)) i
+
+abbrev pub chosen : Table → Run → ℕ → ℕ
+chosen t r x = readyPlace t r (drawnPlace x (length (r .pending)))
+
+-- at most k drawn steps from state x on, until the run has clashed or nothing is pending
+abbrev pub drawn : Table → ℕ → ℕ → Run → Run
+drawn t zero x r = r
+drawn t (suc k) x r =
+    elim (r .state .clash) [
+      | some c ↦ r
+      | none ↦ (elim (length (r .pending)) [
+        | zero ↦ r
+        | suc n ↦ (elim (step t r (chosen t r (nextState x))) [
+          | refused m ↦ r
+          | done m r′ ↦ drawn t k (nextState x) r′
+        ])
+      ])
+    ]
+
+-- the run that the program makes of a file
+unfoldable pub drawnRun : File → Run
+unfolding nextState drawnPlace readyPlace step initial
+drawnRun f =
+    drawn (f .table) (mostSteps (f .table .cabinets) (f .table .unknowns) (length (f .statements))) firstState
+    (initial (f .statements))
+
+-- a number in decimal digits, at most k of them
+abbrev pub digits : ℕ → ℕ → List ℕ
+digits zero n = []
+digits (suc k) n = elim (ltb n 10) [ true ↦ (48 + n) ∷ [] | false ↦ digits k (n / 10) ++ ((48 + n % 10) ∷ []) ]
+
+-- twenty digits hold every number of 64 bits
+unfoldable pub decimal : ℕ → List ℕ
+decimal n = digits 20 n
+
+abbrev pub newline : List ℕ
+newline = 10 ∷ []
+
+-- a number after a space
+abbrev pub spaced : ℕ → List ℕ
+spaced n = 32 ∷ decimal n
+
+abbrev pub spacedAll : List ℕ → List ℕ
+spacedAll [] = []
+spacedAll (n ∷ ns) = spaced n ++ spacedAll ns
+
+-- " open"; " plate", the symbol and each part's lowest item
+abbrev pub printedLook : Look → List ℕ
+printedLook openLook = 32 ∷ 111 ∷ 112 ∷ 101 ∷ 110 ∷ []
+printedLook (recordLook symbol lows) = 32 ∷ 112 ∷ 108 ∷ 97 ∷ 116 ∷ 101 ∷ (spaced symbol ++ spacedAll lows)
+
+-- "per unknown its number, its lowest same item, then .."
+unfoldable pub printedRow : ℕ → Row → List ℕ
+unfolding decimal
+printedRow x w = decimal x ++ (spaced (w .lowest) ++ (printedLook (w .look) ++ newline))
+
+-- the lines of k unknowns from x on
+abbrev pub printedRows : Table → Run → ℕ → ℕ → List ℕ
+printedRows t r zero x = []
+printedRows t r (suc k) x = printedRow x (mapRow t r x) ++ printedRows t r k (suc x)
+
+-- "`items V`", and the rows
+unfoldable pub printedMap : Table → Run → List ℕ
+unfolding printedRow mapRow
+printedMap t r = 105 ∷ 116 ∷ 101 ∷ 109 ∷ 115 ∷ (spaced (t .unknowns) ++ (newline ++ printedRows t r (t .unknowns) 0))
+
+-- "`clash`"
+abbrev pub printedClash : List ℕ
+printedClash = 99 ∷ 108 ∷ 97 ∷ 115 ∷ 104 ∷ newline
+
+-- "`refused N at P`"
+unfoldable pub printedRefusal : ℕ → ℕ → List ℕ
+unfolding decimal
+printedRefusal k p = 114 ∷ 101 ∷ 102 ∷ 117 ∷ 115 ∷ 101 ∷ 100 ∷ (spaced k ++ (32 ∷ 97 ∷ 116 ∷ (spaced p ++ newline)))
+
+abbrev pub printedRun : Table → Run → Option ℕ → List ℕ
+printedRun t r (some c) = printedClash
+printedRun t r none = printedMap t r
+
+abbrev pub printedFile : File → Run → List ℕ
+printedFile f r = printedRun (f .table) r (r .state .clash)
+
+abbrev pub printedRead : Read File → List ℕ
+printedRead (fault k p) = printedRefusal k p
+printedRead (got f at) = printedFile f (drawnRun f)
+
+-- what the program prints of a file
+unfoldable pub printed : List ℕ → List ℕ
+unfolding readFile drawnRun printedMap printedRefusal
+printed s = printedRead (readFile s)

@@ -1,0 +1,38 @@
+-- What a run from a file can become: loaded, then any accepted steps. The statements are an index.
+use mathlib.Core.Path.{_≡_}
+use mathlib.Core.Logic.{_⊎_}
+use mathlib.Core.List.{List, []}
+use mathlib.Core.Option.{Option, none, some}
+use Prim.Native.Nat.{ℕ, suc, _≤_, _<_}
+use lib.ListN.{length}
+use Rattle.base.specs.Lists.{All}
+use Rattle.paper.specs.Sizes.{mostStatements}
+use Rattle.paper.specs.Tables.{Table, TableOk, entries}
+use Rattle.paper.specs.Runs.{Statement, State, Run, initial}
+use Rattle.paper.specs.Steps.{Outcome, refused, done, step}
+
+-- a statement's ranges
+pub record StatementOk (t : Table) (q : Statement) : Type 0 where
+  pub cabinet : q .cabinet < t .cabinets
+  pub left : q .left < entries t
+  pub right : q .right < entries t
+
+-- the ranges of an accepted file: what reading accepts, and nothing else (proofs: `RoundTrip`)
+pub record FileOk (t : Table) (qs : List Statement) : Type 0 where
+  pub table : TableOk t
+  pub count : length qs ≤ mostStatements
+  pub statements : All (StatementOk t) qs
+
+-- reached from a table and statements by so many accepted steps
+pub data Reached (t : Table) : List Statement → ℕ → Run → Type 0 where
+  loaded : {qs : List Statement} → Reached t qs 0 (initial qs)
+  stepped : {qs : List Statement} {n : ℕ} {r : Run} → Reached t qs n r → (i k : ℕ) {r′ : Run} → step t r i ≡ done k r′
+      → Reached t qs (suc n) r′
+
+abbrev pub Clashed : Run → Type 0
+Clashed r = (c : ℕ) × (r .state .clash ≡ some c)
+
+-- unclashed with nothing pending
+pub record Finished (r : Run) : Type 0 where
+  pub unclashed : r .state .clash ≡ none
+  pub empty : r .pending ≡ []
