@@ -1,2 +1,6 @@
 pub mod BenchSheet
 pub mod Ranks
+pub mod StepIsRule
+pub mod Soundness
+pub mod Potential
+pub mod StepCounts

@@ -5,12 +5,14 @@
 use mathlib.Core.Path.{_≡_}
 use mathlib.Core.Logic.{_⊎_}
 use mathlib.Core.Bool.{Bool, true, false}
-use mathlib.Core.List.{List, [], _∷_}
+use mathlib.Core.List.{List, [], _∷_, _++_}
 use mathlib.Core.Option.{Option, none, some}
 use Prim.Native.Nat.{ℕ, zero, suc}
+use lib.ListN.{getElem?}
 use Rattle.base.specs.Choice.{pick, upd}
+use Rattle.base.specs.Lists.{without}
 use Rattle.paper.specs.Tables.{Table, Record, isUnknown, isRecord, recordAt, less, sameHead}
-use Rattle.paper.specs.Runs.{Mark, nothing, initiated, entry, State}
+use Rattle.paper.specs.Runs.{Mark, nothing, initiated, entry, State, Run}
 use Rattle.paper.specs.declared.Item.{Item}
 use Rattle.paper.specs.declared.Item.the-variants.{Statement as statement, Ask as ask, News as news}
 
@@ -87,3 +89,16 @@ pub data Rule (t : Table) : ℕ → Item → State → List Item → State → T
   lose : {c x u v : ℕ} {σ : State} → σ .owner x ≡ some v → Rule t 9 (ask c x u) σ [] σ
   -- "news": "store mark becomes u"
   arrive : {c x u : ℕ} {σ : State} → Rule t 10 (news c x u) σ [] (withMark σ c x (entry u))
+
+-- the run after a step: items left, products, state
+abbrev pub after : Run → List Item → List Item → State → Run
+after r l ps σ = record { stated = r .stated; state = σ; pending = l ++ ps }
+
+-- Rule k is carried out at place i. "Its item goes, later ones move up, and products are appended in the order given."
+pub record Carried (t : Table) (r : Run) (i k : ℕ) (r′ : Run) : Type 0 where
+  pub item : Item
+  pub place : getElem? (r .pending) i ≡ some item
+  pub products : List Item
+  pub state : State
+  pub rule : Rule t k item (r .state) products state
+  pub run : r′ ≡ after r (without (r .pending) i) products state

@@ -80,13 +80,16 @@ abbrev pub ClashOk : Table → Option ℕ → Type 0
 ClashOk t none = Unit {0}
 ClashOk t (some c) = c < t .cabinets
 
+pub record StateOk (t : Table) (σ : State) : Type 0 where
+  pub clash : ClashOk t (σ .clash)
+  pub owner : (x : ℕ) → OwnerOk t x (σ .owner x)
+  pub store : (c x : ℕ) → MarkOk t c x (σ .store c x)
+  pub memo : (c x y : ℕ) → MemoOk t c x y (σ .memo c x y)
+
 -- "A run is sound when all ranges above hold, .."
 pub record Sound (t : Table) (r : Run) : Type 0 where
   pub table : TableOk t
   pub stated : r .stated ≤ mostStatements
-  pub clash : ClashOk t (r .state .clash)
-  pub owner : (x : ℕ) → OwnerOk t x (r .state .owner x)
-  pub store : (c x : ℕ) → MarkOk t c x (r .state .store c x)
-  pub memo : (c x y : ℕ) → MemoOk t c x y (r .state .memo c x y)
+  pub state : StateOk t (r .state)
   pub items : All (ItemOk t) (r .pending)
   pub fits : length (r .pending) ≤ room

@@ -12,7 +12,7 @@ use Rattle.paper.specs.Sizes.{room}
 use Rattle.paper.specs.Refusals.{noSuchPlace, stillWaits, hasClashed, noRoom}
 use Rattle.paper.specs.Tables.{Table, Record, isUnknown, recordAt, less, sameHead}
 use Rattle.paper.specs.Runs.{Mark, nothing, initiated, entry, State, Run}
-use Rattle.paper.specs.Rules.{partStatements, newsTo, withOwner, withMark}
+use Rattle.paper.specs.Rules.{partStatements, newsTo, withOwner, withMark, after}
 use Rattle.paper.specs.declared.Item.{Item}
 use Rattle.paper.specs.declared.Item.the-variants.{Statement as statement, Ask as ask, News as news}
 
@@ -105,24 +105,20 @@ effect t σ (statement c a b) = local σ c (act t (σ .store c) (σ .memo c) c a
 effect t σ (ask c x u) = answered σ c x (answer t x u (σ .owner x) (σ .store c x))
 effect t σ (news c x u) = takes 10 [] (withMark σ c x (entry u))
 
--- "Its item goes, later ones move up, and products are appended in the order given. The answer names the rule."
+-- a refusal's number; or the rule, "The answer names the rule", and the run after
 pub data Outcome : Type 0 where
   refused : ℕ → Outcome
   done : ℕ → Run → Outcome
 
--- the run after: items left, products, state
-abbrev pub after : Run → List Item → List Item → State → Run
-after r l ps σ = record { stated = r .stated; state = σ; pending = l ++ ps }
-
 -- 14, 18
-abbrev pub carried : Run → List Item → Effect → Outcome
-carried r l rests = refused stillWaits
-carried r l (takes k ps σ) = pick (leb (length (l ++ ps)) room) (done k (after r l ps σ)) (refused noRoom)
+abbrev pub performed : Run → List Item → Effect → Outcome
+performed r l rests = refused stillWaits
+performed r l (takes k ps σ) = pick (leb (length (l ++ ps)) room) (done k (after r l ps σ)) (refused noRoom)
 
 -- 13
 abbrev pub taken : Table → Run → ℕ → Option Item → Outcome
 taken t r i none = refused noSuchPlace
-taken t r i (some j) = carried r (without (r .pending) i) (effect t (r .state) j)
+taken t r i (some j) = performed r (without (r .pending) i) (effect t (r .state) j)
 
 -- 15
 abbrev pub running : Table → Run → ℕ → Option ℕ → Outcome
