@@ -4,3 +4,4 @@ pub mod StepIsRule
 pub mod Soundness
 pub mod Potential
 pub mod StepCounts
+pub mod Bindings

@@ -20,7 +20,7 @@ use Rattle.paper.specs.Runs.{Statement, State, Run}
 use Rattle.paper.specs.Rules.{Carried}
 use Rattle.paper.specs.Steps.{refused, step}
 use Rattle.paper.specs.Reached.{FileOk, Reached}
-use Rattle.paper.specs.Counts.{pairsOf, mostSteps, mostHeld}
+use Rattle.paper.specs.Counts.{pairsOf, mostSteps, mostHeld, isStatement}
 use Rattle.paper.specs.declared.Item.{Item}
 use Rattle.paper.specs.declared.Item.the-variants.{Statement as statement, Ask as ask, News as news}
 use Rattle.paper.proofs.Ranks.{rank, rank-unknown, rank-le}
@@ -150,7 +150,7 @@ module _ (t : Table) where
   load-le k a b = omega (arith, heavy-le t 3 a b)
 
   -- 1 for a statement, k for another item
-  abbrev pub counted : ℕ → Item → ℕ
+  abbrev counted : ℕ → Item → ℕ
   counted k (statement c a b) = 1
   counted k (ask c x u) = k
   counted k (news c x u) = k
@@ -161,6 +161,12 @@ module _ (t : Table) where
   counted-le k (statement c a b ∷ l) = omega (arith, counted-le k l)
   counted-le k (ask c a b ∷ l) = omega (arith, counted-le k l)
   counted-le k (news c a b ∷ l) = omega (arith, counted-le k l)
+
+  statements-counted : (l : List Item) → total (counted 0) l ≡ total isStatement l
+  statements-counted [] = refl
+  statements-counted (statement c a b ∷ l) = omega (arith, statements-counted l)
+  statements-counted (ask c a b ∷ l) = omega (arith, statements-counted l)
+  statements-counted (news c a b ∷ l) = omega (arith, statements-counted l)
 
   all-counted : (l : List Item) → total (counted 1) l ≡ length l
   all-counted [] = refl
@@ -177,11 +183,11 @@ module _ (t : Table) (qs : List Statement) (ok : FileOk t qs) where
       (pairs-sum (t .unknowns)) (omega (arith, spent t (step-scale t) (5 * unit t) (cost-le t) qs ok h))
 
   -- "nor holds more than 4E + 3SP statements"
-  pub statements-held : {n : ℕ} {r : Run} → Reached t qs n r → total (counted t 0) (r .pending) ≤ mostHeld (t .cabinets) (t .unknowns) (length qs)
+  pub statements-held : {n : ℕ} {r : Run} → Reached t qs n r → total isStatement (r .pending) ≤ mostHeld (t .cabinets) (t .unknowns) (length qs)
   unfolding most load-scale
   statements-held {n} {r} h =
-      subst (λ (p : ℕ). total (counted t 0) (r .pending) ≤ 4 * length qs + 3 * t .cabinets * p) (pairs-sum (t .unknowns))
-      (omega (arith, spent t (load-scale t 0) 4 (load-le t 0) qs ok h, counted-le t 0 (r .pending), items-le t (load-scale t 0) (r .state) (r .pending)))
+      subst (λ (p : ℕ). total isStatement (r .pending) ≤ 4 * length qs + 3 * t .cabinets * p) (pairs-sum (t .unknowns))
+      (omega (arith, spent t (load-scale t 0) 4 (load-le t 0) qs ok h, counted-le t 0 (r .pending), statements-counted t (r .pending), items-le t (load-scale t 0) (r .state) (r .pending)))
 
   -- items in all, where the potential is at most that of the file
   items-most : (σ : State) (l : List Item) → potential t (load-scale t 1) σ l ≤ most t (load-scale t 1) 4 (load-le t 1) qs ok
@@ -236,7 +242,7 @@ module _ (t : Table) (qs : List Statement) (ok : FileOk t qs) where
       let second : 4 * t .unknowns + 2 ≤ 130 = omega (arith, ok .table .unknowns) in
       omega (arith, step-count t qs ok h, mul-le-mul first second, vs)
 
-  pub statements-held-largest : {n : ℕ} {r : Run} → Reached t qs n r → total (counted t 0) (r .pending) ≤ 12160
+  pub statements-held-largest : {n : ℕ} {r : Run} → Reached t qs n r → total isStatement (r .pending) ≤ 12160
   unfolding p
   statements-held-largest {n} {r} h = omega (arith, statements-held t qs ok h, ok .count, sp)
 

@@ -1,6 +1,11 @@
--- How many steps a run takes and how many items it holds, as document 01 gives them.
+-- How many steps a run takes, how many items it holds, and where the news of a binding are, as document 01 counts them.
+use mathlib.Core.Option.{Option, none, some}
 use Prim.Native.Nat.{ℕ, _+_, _-_, _*_, _/_}
-use Rattle.paper.specs.Tables.{Table}
+use lib.Dec.{eqb}
+use Rattle.base.specs.Choice.{pick}
+use Rattle.paper.specs.Runs.{Mark, nothing, initiated, entry}
+use Rattle.paper.specs.declared.Item.{Item}
+use Rattle.paper.specs.declared.Item.the-variants.{Statement as statement, Ask as ask, News as news}
 
 -- "P = V(V−1)/2"
 abbrev pub pairsOf : ℕ → ℕ
@@ -13,3 +18,25 @@ mostSteps s v e = (5 * e + 4 * s * pairsOf v) * (4 * v + 2) + 3 * v * s
 -- "nor holds more than 4E + 3SP statements"
 abbrev pub mostHeld : ℕ → ℕ → ℕ → ℕ
 mostHeld s v e = 4 * e + 3 * s * pairsOf v
+
+-- 1 for a statement, 0 for another item
+abbrev pub isStatement : Item → ℕ
+isStatement (statement c a b) = 1
+isStatement (ask c x u) = 0
+isStatement (news c x u) = 0
+
+-- "for each unknown with an owner mark, pending news plus cabinets holding that entry come to S": 1 for news of x; for a mark
+-- that is an entry; and for an unknown of which the cabinets are told, one with an owner mark
+abbrev pub newsOf : ℕ → Item → ℕ
+newsOf x (statement d a b) = 0
+newsOf x (ask d y u) = 0
+newsOf x (news d y u) = pick (eqb y x) 1 0
+
+abbrev pub holds : Mark → ℕ
+holds nothing = 0
+holds initiated = 0
+holds (entry v) = 1
+
+abbrev pub told : Option ℕ → ℕ
+told none = 0
+told (some v) = 1
