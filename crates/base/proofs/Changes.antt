@@ -1,10 +1,10 @@
--- Laws of a function changed at one place.
+-- Laws of a function changed at one place, and of a table of pairs with one pair put in.
 use mathlib.Core.Path.{_≡_, refl, sym, subst, ap, _∙_, fun-ext}
-use mathlib.Core.Logic.{_≢_}
+use mathlib.Core.Logic.{_⊎_, inl, inr, _≢_}
 use mathlib.Core.Bool.{Bool, true, false}
 use Prim.Native.Nat.{ℕ}
 use borrow.Author.Tests.{eq-eqb, ne-eqb, eqb-true, eqb-false}
-use lib.Dec.{eqb}
+use lib.Dec.{T, eqb}
 use Rattle.base.specs.Choice.{pick, upd}
 
 module _ {A : Type 0} where
@@ -35,3 +35,19 @@ module _ {A : Type 0} where
   -- a change to what is there is none
   pub upd-self : (f : ℕ → A) (x : ℕ) (a : A) → f x ≡ a → upd f x a ≡ f
   upd-self f x a e = sym (upd-is f f x a e (λ y d. refl))
+
+-- the pair x, y put into m
+module _ (m : ℕ → ℕ → Bool) (x y : ℕ) where
+  pub pair-keeps : (p q : ℕ) → T (m p q) → T (upd m x (upd (m x) y true) p q)
+  pair-keeps =
+      upd-all (λ p f. (q : ℕ) → T (m p q) → T (f q)) m x (upd (m x) y true) (λ p q h. h)
+      (upd-all (λ q b. T (m x q) → T b) (m x) y true (λ q h. h) (λ h. tt))
+
+  pub pair-here : T (upd m x (upd (m x) y true) x y)
+  pair-here =
+      subst (λ (f : ℕ → Bool). T (f y)) (sym (upd-same m x (upd (m x) y true))) (subst T (sym (upd-same (m x) y true)) tt)
+
+  pub pair-only : (p q : ℕ) → T (upd m x (upd (m x) y true) p q) → T (m p q) ⊎ ((p ≡ x) × (q ≡ y))
+  pair-only =
+      upd-all (λ p f. (q : ℕ) → T (f q) → T (m p q) ⊎ ((p ≡ x) × (q ≡ y))) m x (upd (m x) y true) (λ p q h. inl h)
+      (upd-all (λ q b. T b → T (m x q) ⊎ ((x ≡ x) × (q ≡ y))) (m x) y true (λ q h. inl h) (λ h. inr (refl, refl)))

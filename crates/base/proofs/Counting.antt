@@ -1,9 +1,10 @@
 -- Counting the numbers below n that pass a test, and the least that passes.
 use mathlib.Core.Path.{_≡_, refl, sym, subst}
-use mathlib.Core.Logic.{_⊎_, inl, inr, ⊎-elim}
+use mathlib.Core.Logic.{_⊎_, inl, inr, ⊎-elim, _↔_}
 use mathlib.Core.Bool.{Bool, true, false, _&&_, not}
 use Prim.Native.Nat.{ℕ, zero, suc, _+_, _≤_, _<_}
 use native.Mathlib.Nat.{not-suc-le-zero}
+use native.Mathlib.Decide.{decLt}
 use native.Mathlib.Omega.{arith}
 use lib.Dec.{T, T-not, not-T}
 use Rattle.base.proofs.Tests.{fst-T, snd-T, and-T, T?, last-or}
@@ -66,6 +67,24 @@ least-T p m h = h .0
 pub least-first : (p : ℕ → Bool) (m : ℕ) → Least p m → (k : ℕ) → k < m → T (p k) → ⊥
 unfolding Least
 least-first p m h = h .1
+
+module _ (p : ℕ → Bool) where
+  pub least-in : (m : ℕ) → T (p m) → ((k : ℕ) → k < m → T (p k) → ⊥) → Least p m
+  unfolding Least
+  least-in m h k = (h, k)
+
+  -- there is one least place
+  pub least-one : (m n : ℕ) → Least p m → Least p n → m ≡ n
+  least-one m n a b = go (decLt m n) (decLt n m)
+    where
+      go : Dec (m < n) → Dec (n < m) → m ≡ n
+      go (yes h) k = absurd (least-first p n b m h (least-T p m a))
+      go (no h) (yes k) = absurd (least-first p m a n k (least-T p n b))
+      go (no h) (no k) = omega arith
+
+  pub least-same : (q : ℕ → Bool) → ((k : ℕ) → T (p k) ↔ T (q k)) → (m : ℕ) → Least p m → Least q m
+  unfolding Least
+  least-same q s m h = (s m .0 (h .0), λ k l t. h .1 k l (s k .1 t))
 
 least? : (p : ℕ → Bool) (n : ℕ) → ((m : ℕ) × (m < n) × Least p m) ⊎ ((k : ℕ) → k < n → T (p k) → ⊥)
 unfolding Least

@@ -9,6 +9,15 @@ use lib.ListN.{length}
 use Rattle.base.specs.Lists.{All, Zip, z-here, z-there, AllZip, pairwise}
 use Rattle.base.proofs.Tests.{fst-T, snd-T, and-T}
 
+-- what holds of each element of a list holds of either side of a pair
+pub zip-left : (P : ℕ → Type 0) {ps qs : List ℕ} {p q : ℕ} → All P ps → Zip ps qs p q → P p
+zip-left P a z-here = a .0
+zip-left P a (z-there z) = zip-left P (a .1) z
+
+pub zip-right : (P : ℕ → Type 0) {ps qs : List ℕ} {p q : ℕ} → All P qs → Zip ps qs p q → P q
+zip-right P a z-here = a .0
+zip-right P a (z-there z) = zip-right P (a .1) z
+
 module _ (f : ℕ → ℕ → Bool) where
   pub pairwise-zip : {ps qs : List ℕ} {p q : ℕ} → T (pairwise f ps qs) → Zip ps qs p q → T (f p q)
   pairwise-zip h (z-here {p} {q} {ps} {qs}) = fst-T (f p q) (pairwise f ps qs) h
@@ -83,3 +92,9 @@ module _ (f : ℕ → ℕ → Bool) (R : ℕ → ℕ → Type 0) where
   zip-out h (p ∷ ps) [] a = a
   zip-out h (p ∷ ps) (q ∷ qs) a =
       (h p q (fst-T (f p q) (pairwise f ps qs) a), zip-out h ps qs (snd-T (f p q) (pairwise f ps qs) a))
+
+pub allzip-map : (R S : ℕ → ℕ → Type 0) → ((p q : ℕ) → R p q → S p q) → (ps qs : List ℕ) → AllZip R ps qs → AllZip S ps qs
+allzip-map R S f [] [] a = a
+allzip-map R S f [] (q ∷ qs) a = a
+allzip-map R S f (p ∷ ps) [] a = a
+allzip-map R S f (p ∷ ps) (q ∷ qs) a = (f p q (a .0), allzip-map R S f ps qs (a .1))

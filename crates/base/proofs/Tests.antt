@@ -1,7 +1,7 @@
--- Laws of tests: conjunction, decision, two tests that pass together, and an order below a successor.
+-- Laws of tests: conjunction, disjunction, decision, two tests that pass together, and an order below a successor.
 use mathlib.Core.Path.{_≡_, refl, subst, sym}
 use mathlib.Core.Logic.{_⊎_, inl, inr, ⊎-elim}
-use mathlib.Core.Bool.{Bool, true, false, _&&_, not}
+use mathlib.Core.Bool.{Bool, true, false, _&&_, _||_, not}
 use Prim.Native.Nat.{ℕ, suc, _<_}
 use native.Mathlib.Nat.{eq-or-lt-of-le}
 use native.Mathlib.Omega.{arith}
@@ -19,6 +19,18 @@ snd-T false b h = absurd h
 pub and-T : (a b : Bool) → T a → T b → T (a && b)
 and-T true b h k = k
 and-T false b h k = h
+
+pub or-left : (a b : Bool) → T a → T (a || b)
+or-left true b h = tt
+or-left false b h = absurd h
+
+pub or-right : (a b : Bool) → T b → T (a || b)
+or-right true b h = tt
+or-right false b h = h
+
+pub or-T : (a b : Bool) → T (a || b) → T a ⊎ T b
+or-T true b h = inl tt
+or-T false b h = inr h
 
 pub fst-true : (a b : Bool) → (a && b) ≡ true → a ≡ true
 fst-true true b e = refl

@@ -144,7 +144,7 @@ one-binding t qs ok h =
     reached-keeps t qs ok (λ n. Bound) (bound-start qs) (λ n. bound-front) (λ n σ s f j i m k ps σ′ r. bound-kept t m r) h
 
 -- news of x to cabinet c
-abbrev newsAt : ℕ → ℕ → Item → ℕ
+abbrev pub newsAt : ℕ → ℕ → Item → ℕ
 newsAt c x (statement d a b) = 0
 newsAt c x (ask d y u) = 0
 newsAt c x (news d y u) = pick (eqb d c && eqb y x) 1 0

@@ -5,3 +5,15 @@ pub mod Soundness
 pub mod Potential
 pub mod StepCounts
 pub mod Bindings
+pub mod Progress
+pub mod Local
+pub mod SameEnds
+pub mod Depth
+pub mod Chains
+pub mod Settled
+pub mod History
+pub mod Rows
+pub mod MapOfStatements
+pub mod StatementSets
+pub mod MetPairs
+pub mod OneResult

@@ -198,7 +198,7 @@ module _ (t : Table) (r : Run) (s : Sound t r) (free : r .state .clash ≡ none)
   abbrev left : List Item
   left = without (r .pending) i
 
-  step-at : (j : Item) → getElem? (r .pending) i ≡ some j → step t r i ≡ performed r left (effect t (r .state) j)
+  pub step-at : (j : Item) → getElem? (r .pending) i ≡ some j → step t r i ≡ performed r left (effect t (r .state) j)
   unfolding step
   step-at j e = rw (free, e)
 

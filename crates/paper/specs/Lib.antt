@@ -7,10 +7,12 @@ pub mod Rules
 pub mod Steps
 pub mod Files
 pub mod Reached
+pub mod Locality
 pub mod Replies
 pub mod Alike
 pub mod Ends
 pub mod Maps
+pub mod Sets
 pub mod Counts
 pub mod Programs
 pub mod Vectors

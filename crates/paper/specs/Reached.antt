@@ -29,6 +29,11 @@ pub data Reached (t : Table) : List Statement → ℕ → Run → Type 0 where
   stepped : {qs : List Statement} {n : ℕ} {r : Run} → Reached t qs n r → (i k : ℕ) {r′ : Run} → step t r i ≡ done k r′
       → Reached t qs (suc n) r′
 
+-- a run that any accepted steps make of a run
+pub data Later (t : Table) (r : Run) : Run → Type 0 where
+  same : Later t r r
+  next : {p : Run} → Later t r p → (i k : ℕ) {p′ : Run} → step t p i ≡ done k p′ → Later t r p′
+
 abbrev pub Clashed : Run → Type 0
 Clashed r = (c : ℕ) × (r .state .clash ≡ some c)
 
@@ -36,3 +41,7 @@ Clashed r = (c : ℕ) × (r .state .clash ≡ some c)
 pub record Finished (r : Run) : Type 0 where
   pub unclashed : r .state .clash ≡ none
   pub empty : r .pending ≡ []
+
+-- "until it clashes or nothing is pending"
+abbrev pub Over : Run → Type 0
+Over r = Clashed r ⊎ Finished r
