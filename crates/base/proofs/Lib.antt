@@ -4,3 +4,4 @@ pub mod Sums
 pub mod Elements
 pub mod Pairs
 pub mod Counting
+pub mod Firsts

@@ -1,6 +1,6 @@
--- A choice by a test, and a function changed at one place.
+-- A choice by a test, a function changed at one place, and the first number that passes a test.
 use mathlib.Core.Bool.{Bool, true, false}
-use Prim.Native.Nat.{ℕ}
+use Prim.Native.Nat.{ℕ, zero, suc}
 use lib.Dec.{eqb}
 
 module _ {A : Type 0} where
@@ -12,3 +12,8 @@ module _ {A : Type 0} where
   -- f, but a at x
   abbrev pub upd : (ℕ → A) → ℕ → A → ℕ → A
   upd f x a y = pick (eqb y x) a (f y)
+
+-- the first of y and the k numbers after it that passes; the last where no earlier one does
+abbrev pub firstOf : (ℕ → Bool) → ℕ → ℕ → ℕ
+firstOf f zero y = y
+firstOf f (suc k) y = elim (f y) [ true ↦ y | false ↦ firstOf f k (suc y) ]

@@ -1,5 +1,5 @@
 -- Owner marks followed to their end: chains fall, so V marks are enough and an unknown's end is that of its owner's entry.
-use mathlib.Core.Path.{_≡_, refl, sym, subst}
+use mathlib.Core.Path.{_≡_, refl, subst}
 use mathlib.Core.Bool.{Bool, true, false}
 use mathlib.Core.List.{List}
 use mathlib.Core.Option.{Option, none, some}
@@ -48,7 +48,9 @@ module _ (t : Table) (o : ℕ → Option ℕ) where
             → LowEnd (t .unknowns) (byEntry p t w a (followed t o n))
         go true none ih = tt
         go true (some v) ih = ih v
-        go false w ih = all-getD (λ (q : Record). LowEnd (t .unknowns) (atRecord q)) (t .records) (a - t .unknowns) noRecord tt (all-map _ _ (λ q h. h .parts) (t .records) (ok .records))
+        go false w ih =
+            all-getD (λ (q : Record). LowEnd (t .unknowns) (atRecord q)) (t .records) (a - t .unknowns) noRecord tt
+            (all-map _ _ (λ q h. h .parts) (t .records) (ok .records))
 
     pub end-low : (a : ℕ) → LowEnd (t .unknowns) (endOf t o a)
     unfolding endOf

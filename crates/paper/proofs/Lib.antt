@@ -1,4 +1,5 @@
 pub mod BenchSheet
+pub mod BenchRows
 pub mod Ranks
 pub mod StepIsRule
 pub mod Soundness
@@ -9,11 +10,15 @@ pub mod Progress
 pub mod Local
 pub mod SameEnds
 pub mod Depth
+pub mod DepthTwoLess
+pub mod MetPairs
+pub mod MetPairsEnd
 pub mod Chains
 pub mod Settled
 pub mod History
 pub mod Rows
 pub mod MapOfStatements
+pub mod Ring
 pub mod StatementSets
-pub mod MetPairs
 pub mod OneResult
+pub mod DrawnRun

@@ -1,6 +1,6 @@
 -- Where owner marks come from alike entries and the statements hold over them, the map over ends is the statements' own.
 use mathlib.Core.Path.{_≡_, refl, sym, subst, ap₂, _∙_}
-use mathlib.Core.Logic.{_⊎_, inl, inr, _↔_}
+use mathlib.Core.Logic.{inl, inr, _↔_}
 use mathlib.Core.Bool.{true}
 use mathlib.Core.List.{List, [], _∷_, map}
 use mathlib.Core.Option.{Option, some}
@@ -68,13 +68,15 @@ module _ (t : Table) (qs : List Statement) (o : ℕ → Option ℕ) where
         let q : Record = recordAt t (h .two) in
         let k : T (agree e (suc d) (h .one) (h .two)) =
         rw (end-record t o (h .one) (h .one-record), end-record t o (h .two) (h .two-record))
-        (ends-in p q (agree e d) (true-T (sameHead p q) (h .head)) (zip-in (agree e d) (Agree t qs d) (agree-in d) (p .parts) (q .parts) (h .parts))) in
+        (ends-in p q (agree e d) (true-T (sameHead p q) (h .head))
+        (zip-in (agree e d) (Agree t qs d) (agree-in d) (p .parts) (q .parts) (h .parts))) in
         agree-tr e (suc d) x (h .one) y (alike-agree (h .one-alike) (suc d))
         (agree-tr e (suc d) (h .one) (h .two) y k (alike-agree (back (h .two-alike)) (suc d)))
 
     agree-out : (d x y : ℕ) → T (agree e d x y) → Agree t qs d x y
     agree-out zero x y h = tt
-    agree-out (suc d) x y h = go (e x) refl (ended t o (s .fall) qs (s .own) x) (e y) (ended t o (s .fall) qs (s .own) y) h (agree-out d)
+    agree-out (suc d) x y h =
+        go (e x) refl (ended t o (s .fall) qs (s .own) x) (e y) (ended t o (s .fall) qs (s .own) y) h (agree-out d)
       where
         go : (m : End) → e x ≡ m → Ended t qs x m → (n : End) → Ended t qs y n → T (sameEnds (agree e d) m n)
             → ((p q : ℕ) → T (agree e d p q) → Agree t qs d p q) → Agree t qs (suc d) x y
@@ -126,7 +128,8 @@ module _ (t : Table) (qs : List Statement) (o : ℕ → Option ℕ) where
     lowest-parts-only (p ∷ ps) (r ∷ rs) (m ∷ ms) h a =
         let k = fst-T (agree e v p r) (pairwise (agree e v) ps rs) h in
         ap₂ (λ (n : ℕ) (ns : List ℕ). n ∷ ns)
-        (least-one (agree e v r) m (lowestOf e v p) (lowest-out r m (a .0)) (least-moves e v p r (lowestOf e v p) k (lowest-is-least e v p)))
+        (least-one (agree e v r) m (lowestOf e v p) (lowest-out r m (a .0))
+        (least-moves e v p r (lowestOf e v p) k (lowest-is-least e v p)))
         (lowest-parts-only ps rs ms (snd-T (agree e v p r) (pairwise (agree e v) ps rs) h) (a .1))
 
     look-is : (x : ℕ) (z : End) → e x ≡ z → Ended t qs x z → IsLook t qs x (lookOf e v z)

@@ -1,9 +1,8 @@
 -- "A pair already met in answering one question is not compared again and no depth is counted; the answer is still that of
 -- depth V."
-use mathlib.Core.Path.{_≡_, refl, sym, subst, subst₂}
+use mathlib.Core.Path.{_≡_, sym, subst, subst₂}
 use mathlib.Core.Logic.{_⊎_, inl, inr, ⊎-elim}
-use mathlib.Core.Bool.{Bool, true, false, _&&_, _||_}
-use mathlib.Core.List.{List, [], _∷_}
+use mathlib.Core.Bool.{Bool, false, _||_}
 use Prim.Native.Nat.{ℕ, zero, suc, max, min, _<_}
 use native.Mathlib.Decide.{ℕ-discrete}
 use native.Mathlib.Omega.{arith}
@@ -11,8 +10,8 @@ use lib.Dec.{T, eqb, eqb→eq, eqb-refl}
 use Rattle.base.specs.Lists.{pairwise}
 use Rattle.base.proofs.Tests.{fst-T, snd-T, and-T, or-left, or-right, or-T, T?, T-same, true-T, false-T, eqb-flip}
 use Rattle.base.proofs.Changes.{pair-keeps, pair-here, pair-only}
-use Rattle.paper.specs.Tables.{Record, sameHead}
-use Rattle.paper.specs.Ends.{End, atOpen, atRecord, sameEnds, agree, isMet, meeting, Unknowns, same, already, opens, left-open, right-open, differ, records, Parts, over, apart, on}
+use Rattle.paper.specs.Tables.{sameHead}
+use Rattle.paper.specs.Ends.{End, sameEnds, agree, isMet, meeting, Unknowns, same, already, opens, left-open, right-open, differ, records, over, apart, on}
 use Rattle.paper.proofs.SameEnds.{ends-in, ends-head, ends-parts, ends-mono, ends-flip}
 use Rattle.paper.proofs.Depth.{LowEnd, agree-refl, depth-V-is-every-depth}
 
@@ -45,7 +44,9 @@ known-flip m p q h =
 
 meeting-only : (m : ℕ → ℕ → Bool) (x y p q : ℕ) → T (isMet (meeting m x y) p q)
     → T (isMet m p q) ⊎ (((p ≡ x) × (q ≡ y)) ⊎ ((p ≡ y) × (q ≡ x)))
-meeting-only m x y p q h = ⊎-elim (λ j. inl j) (λ j. inr (go (j .0) (j .1) (ℕ-discrete p x))) (pair-only m (max x y) (min x y) (max p q) (min p q) h)
+meeting-only m x y p q h =
+    ⊎-elim (λ j. inl j) (λ j. inr (go (j .0) (j .1) (ℕ-discrete p x)))
+    (pair-only m (max x y) (min x y) (max p q) (min p q) h)
   where
     go : max p q ≡ max x y → min p q ≡ min x y → Dec (p ≡ x) → ((p ≡ x) × (q ≡ y)) ⊎ ((p ≡ y) × (q ≡ x))
     go d e (yes a) = inl (omega arith)
@@ -68,7 +69,9 @@ module _ (e : ℕ → End) where
         keeps = λ p q k. h .keeps p q (g .keeps p q k);
         closed = λ p q k.
             ⊎-elim
-            (λ k′. ⊎-elim (λ j. inl j) (λ j. inr (ends-mono (known m′) (known m″) (known-keeps m′ m″ (h .keeps)) (e p) (e q) j)) (g .closed p q k′))
+            (λ k′.
+            ⊎-elim (λ j. inl j)
+            (λ j. inr (ends-mono (known m′) (known m″) (known-keeps m′ m″ (h .keeps)) (e p) (e q) j)) (g .closed p q k′))
             (λ k′. inr k′) (h .closed p q k);
       }
 
@@ -95,7 +98,8 @@ module _ (e : ℕ → End) where
   unknowns-yes : {x y : ℕ} {m m′ : ℕ → ℕ → Bool} {b : Bool} → Unknowns e x y m b m′ → T b → Grown m m′ × T (known m′ x y)
   unfolding known
   unknowns-yes u =
-      elim u as (λ x y m b m′ u′. T b → Grown m m′ × T (known m′ x y)) (λ ps qs m b m′ u′. T b → Grown m m′ × T (pairwise (known m′) ps qs)) [
+      elim u as (λ x y m b m′ u′. T b → Grown m m′ × T (known m′ x y))
+      (λ ps qs m b m′ u′. T b → Grown m m′ × T (pairwise (known m′) ps qs)) [
         | same {x} {m} ↦ λ h. (unchanged m, or-left (eqb x x) (isMet m x x) (eqb-refl x))
         | already {x} {y} {m} k ↦ λ h. (unchanged m, or-right (eqb x y) (isMet m x y) (true-T (isMet m x y) k))
         | opens {x} {y} {z} {w} {m} d k c f ↦ λ h. met-grown m (meeting m x y) x y (unchanged (meeting m x y)) (rw (c, f) h)
@@ -113,7 +117,8 @@ module _ (e : ℕ → End) where
       ]
 
   -- no: agreement fails at some depth
-  unknowns-no : {x y : ℕ} {m m′ : ℕ → ℕ → Bool} {b : Bool} → Unknowns e x y m b m′ → (T b → ⊥) → (d : ℕ) × (T (agree e d x y) → ⊥)
+  unknowns-no : {x y : ℕ} {m m′ : ℕ → ℕ → Bool} {b : Bool} → Unknowns e x y m b m′ → (T b → ⊥)
+      → (d : ℕ) × (T (agree e d x y) → ⊥)
   unknowns-no u =
       elim u as (λ x y m b m′ u′. (T b → ⊥) → (d : ℕ) × (T (agree e d x y) → ⊥))
       (λ ps qs m b m′ u′. (T b → ⊥) → (d : ℕ) × (T (pairwise (agree e d) ps qs) → ⊥)) [
@@ -145,7 +150,9 @@ module _ (e : ℕ → End) where
   -- with met pairs, from the empty table, and no depth counted, the answer is that of depth V
   pub met-pairs-answer-depth-V : (v : ℕ) → ((x : ℕ) → x < v → LowEnd v (e x)) → {x y : ℕ} {b : Bool} {m : ℕ → ℕ → Bool}
       → Unknowns e x y (λ p q. false) b m → x < v → y < v → b ≡ agree e v x y
-  met-pairs-answer-depth-V v low {x} {y} {b} {m} u hx hy = T-same b (agree e v x y) yes-agrees (λ h. ⊎-elim (λ k. k) (λ n. absurd (no-agrees h (unknowns-no u n))) (T? b))
+  met-pairs-answer-depth-V v low {x} {y} {b} {m} u hx hy =
+      T-same b (agree e v x y) yes-agrees
+      (λ h. ⊎-elim (λ k. k) (λ n. absurd (no-agrees h (unknowns-no u n))) (T? b))
     where
       yes-agrees : T b → T (agree e v x y)
       yes-agrees h =

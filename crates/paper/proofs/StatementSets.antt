@@ -1,14 +1,14 @@
 -- What the statements alone say is the same for the same items and records and the same set of statements: cabinet, order,
 -- repeats and left or right are no matter.
-use mathlib.Core.Path.{_≡_, sym, subst₂}
-use mathlib.Core.Logic.{_⊎_, inl, inr, ⊎-elim, _↔_}
+use mathlib.Core.Path.{sym, subst₂}
+use mathlib.Core.Logic.{inl, inr}
 use mathlib.Core.List.{List}
 use Prim.Native.Nat.{ℕ, zero, suc}
 use Rattle.base.proofs.Pairs.{allzip-map}
 use Rattle.paper.specs.Tables.{Table, Record, recordAt}
 use Rattle.paper.specs.Runs.{Statement}
-use Rattle.paper.specs.Alike.{Stated, Alike, given, self, back, via, part, Clash, BothOpen, BothRecords, Agree}
-use Rattle.paper.specs.Maps.{Look, openLook, recordLook, Row, IsLowest, IsRecordLook, IsLook, IsRow}
+use Rattle.paper.specs.Alike.{Alike, given, self, back, via, part, Clash, Agree}
+use Rattle.paper.specs.Maps.{Look, openLook, recordLook, Row, IsLowest, IsLook, IsRow}
 use Rattle.paper.specs.Sets.{SameItems, Said, SameSet}
 
 pub same-back : {qs qs′ : List Statement} → SameSet qs qs′ → SameSet qs′ qs
@@ -64,7 +64,8 @@ module _ (t : Table) (c c′ : ℕ) {qs qs′ : List Statement} (same : SameSet 
         one-alike = there (h .one-alike);
         two-alike = there (h .two-alike);
         head = h .head;
-        parts = allzip-map (Agree (with t c) qs d) (Agree (with t c′) qs′ d) (agree-in d) (recordAt t (h .one) .parts) (recordAt t (h .two) .parts) (h .parts);
+        parts = allzip-map (Agree (with t c) qs d) (Agree (with t c′) qs′ d) (agree-in d) (recordAt t (h .one) .parts)
+            (recordAt t (h .two) .parts) (h .parts);
       })
 
 module _ (t : Table) (c c′ : ℕ) {qs qs′ : List Statement} (same : SameSet qs qs′) where
@@ -91,7 +92,8 @@ module _ (t : Table) (c c′ : ℕ) {qs qs′ : List Statement} (same : SameSet 
 
 -- from a table to one with the same items
 onto : (P : Table → Type 0) (t t′ : Table) → SameItems t t′ → P (with t (t′ .cabinets)) → P t′
-onto P t t′ e = subst₂ (λ (v : ℕ) (rs : List Record). P (record { cabinets = t′ .cabinets; unknowns = v; records = rs })) (e .0) (e .1)
+onto P t t′ e =
+    subst₂ (λ (v : ℕ) (rs : List Record). P (record { cabinets = t′ .cabinets; unknowns = v; records = rs })) (e .0) (e .1)
 
 -- "the same numbered items and records, and the same set of statements once cabinet, order, repeats and left or right are
 -- forgotten": two files that differ in nothing else

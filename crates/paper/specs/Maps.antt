@@ -3,7 +3,7 @@ use mathlib.Core.Path.{_≡_}
 use mathlib.Core.Bool.{Bool, true, false}
 use mathlib.Core.List.{List, [], _∷_, map}
 use Prim.Native.Nat.{ℕ, zero, suc, _<_}
-use Rattle.base.specs.Choice.{pick}
+use Rattle.base.specs.Choice.{firstOf}
 use Rattle.base.specs.Lists.{AllZip}
 use Rattle.paper.specs.Tables.{Table, Record, isRecord, recordAt}
 use Rattle.paper.specs.Runs.{Statement, State, Run}
@@ -40,11 +40,7 @@ pub record IsRow (t : Table) (qs : List Statement) (x : ℕ) (w : Row) : Type 0 
   pub lowest : IsLowest t qs x (w .lowest)
   pub look : IsLook t qs x (w .look)
 
--- from a run: the first of y and the k numbers after it that passes, the last where no earlier one does
-abbrev pub firstOf : (ℕ → Bool) → ℕ → ℕ → ℕ
-firstOf f zero y = y
-firstOf f (suc k) y = elim (f y) [ true ↦ y | false ↦ firstOf f k (suc y) ]
-
+-- from a run
 unfoldable pub lowestOf : (ℕ → End) → ℕ → ℕ → ℕ
 lowestOf e v x = firstOf (λ y. agree e v x y) x 0
 

@@ -1,11 +1,11 @@
 -- The map program: its draws, the place it takes, the run it makes, and what it prints, as bytes.
-use mathlib.Core.Bool.{Bool, true, false}
+use mathlib.Core.Bool.{Bool, true, false, not}
 use mathlib.Core.List.{List, [], _∷_, _++_}
 use mathlib.Core.Option.{Option, none, some}
-use Prim.Native.Nat.{ℕ, zero, suc, _+_, _*_, _/_, _%_}
+use Prim.Native.Nat.{ℕ, zero, suc, _+_, _-_, _*_, _/_, _%_}
 use lib.Dec.{ltb}
 use lib.ListN.{length}
-use Rattle.base.specs.Choice.{pick}
+use Rattle.base.specs.Choice.{firstOf}
 use Rattle.paper.specs.Tables.{Table}
 use Rattle.paper.specs.Runs.{State, Run, initial}
 use Rattle.paper.specs.Steps.{Outcome, refused, done, step, waitsAt}
@@ -24,15 +24,17 @@ nextState x = (1664525 * x + 1013904223) % 4294967296
 unfoldable pub drawnPlace : ℕ → ℕ → ℕ
 drawnPlace x n = x / 65536 % n
 
--- the first of k places from i on, going round n, that does not wait; n where all do
-abbrev pub readyFrom : Table → Run → ℕ → ℕ → ℕ → ℕ
-readyFrom t r n zero i = n
-readyFrom t r n (suc k) i = elim (waitsAt t r i) [ true ↦ readyFrom t r n k ((i + 1) % n) | false ↦ i ]
+abbrev pub isReady : Table → Run → ℕ → Bool
+isReady t r i = not (waitsAt t r i)
 
--- "If that place waits it takes the first one after it, going round, that does not."
+-- "If that place waits it takes the first one after it, going round, that does not": from i on, else from 0 on; the pending
+-- count where all wait
 unfoldable pub readyPlace : Table → Run → ℕ → ℕ
 unfolding waitsAt
-readyPlace t r i = readyFrom t r (length (r .pending)) (length (r .pending)) i
+readyPlace t r i =
+    let n = length (r .pending) in
+    let ahead = firstOf (isReady t r) (n - i) i in
+    elim (ltb ahead n) [ true ↦ ahead | false ↦ firstOf (isReady t r) n 0 ]
 
 abbrev pub chosen : Table → Run → ℕ → ℕ
 chosen t r x = readyPlace t r (drawnPlace x (length (r .pending)))
