@@ -5,3 +5,4 @@ pub mod Elements
 pub mod Pairs
 pub mod Counting
 pub mod Firsts
+pub mod Regions
