@@ -5,7 +5,7 @@ use mathlib.Core.List.{List, [], _∷_, _++_, map}
 use mathlib.Core.Option.{Option, none, some}
 use Prim.Native.Nat.{ℕ, zero, suc, _+_, _*_, _≤_, _<_}
 use native.Mathlib.Omega.{arith}
-use lib.ListN.{length, getElem?, getD}
+use lib.ListN.{length, getElem?, getD, take, drop, replicate}
 use Rattle.base.specs.Lists.{without, All, total, Member, here, there}
 
 module _ {A : Type 0} where
@@ -43,6 +43,12 @@ module _ {A : Type 0} where
   no-place (x ∷ l) zero h = absurd (let z : ⊥ = omega arith in z)
   no-place (x ∷ l) (suc i) h = no-place l i (omega arith)
 
+  -- an element, what stands before it and what after
+  pub place-split : (l : List A) (i : ℕ) (j : A) → getElem? l i ≡ some j → l ≡ take i l ++ (j ∷ drop (suc i) l)
+  place-split [] i j e = absurd (let z : _≡_ {A = ℕ} 0 1 = cc in omega arith)
+  place-split (x ∷ l) zero j e = let e′ : x ≡ j = cc in rw e′
+  place-split (x ∷ l) (suc i) j e = ap (λ (m : List A). x ∷ m) (place-split l i j e)
+
   pub all-append : (P : A → Type 0) (l m : List A) → All P l → All P m → All P (l ++ m)
   all-append P [] m a b = b
   all-append P (x ∷ l) m a b = (a .0, all-append P l m (a .1) b)
@@ -50,6 +56,16 @@ module _ {A : Type 0} where
   pub all-right : (P : A → Type 0) (l m : List A) → All P (l ++ m) → All P m
   all-right P [] m a = a
   all-right P (x ∷ l) m a = all-right P l m (a .1)
+
+  pub all-take : (P : A → Type 0) (l : List A) (n : ℕ) → All P l → All P (take n l)
+  all-take P [] zero a = a
+  all-take P [] (suc n) a = a
+  all-take P (x ∷ l) zero a = tt
+  all-take P (x ∷ l) (suc n) a = (a .0, all-take P l n (a .1))
+
+  pub all-replicate : (P : A → Type 0) (n : ℕ) (x : A) → P x → All P (replicate n x)
+  all-replicate P zero x h = tt
+  all-replicate P (suc n) x h = (h, all-replicate P n x h)
 
   pub all-map : (P Q : A → Type 0) → ((x : A) → P x → Q x) → (l : List A) → All P l → All Q l
   all-map P Q f [] a = a

@@ -2,6 +2,7 @@ pub mod Tests
 pub mod Changes
 pub mod Sums
 pub mod Elements
+pub mod Positions
 pub mod Pairs
 pub mod Counting
 pub mod Firsts

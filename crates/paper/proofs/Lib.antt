@@ -20,5 +20,11 @@ pub mod Rows
 pub mod MapOfStatements
 pub mod Ring
 pub mod StatementSets
+pub mod NumberCodec
+pub mod NumberFaults
+pub mod Forms
+pub mod RoundTrip
+pub mod FirstFault
+pub mod StatementParts
 pub mod OneResult
 pub mod DrawnRun
