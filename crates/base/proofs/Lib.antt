@@ -7,3 +7,4 @@ pub mod Pairs
 pub mod Counting
 pub mod Firsts
 pub mod Regions
+pub mod Ranges

@@ -1,5 +1,5 @@
--- A choice by a test, a function changed at one place, and the first number that passes a test.
-use mathlib.Core.Bool.{Bool, true, false}
+-- A choice by a test, a function changed at one place, the first number that passes a test, and all below a number that do.
+use mathlib.Core.Bool.{Bool, true, false, _&&_}
 use Prim.Native.Nat.{ℕ, zero, suc}
 use lib.Dec.{eqb}
 
@@ -17,3 +17,8 @@ module _ {A : Type 0} where
 abbrev pub firstOf : (ℕ → Bool) → ℕ → ℕ → ℕ
 firstOf f zero y = y
 firstOf f (suc k) y = elim (f y) [ true ↦ y | false ↦ firstOf f k (suc y) ]
+
+-- every number below n passes
+unfoldable pub allBelow : ℕ → (ℕ → Bool) → Bool
+allBelow zero f = true
+allBelow (suc n) f = f n && allBelow n f

@@ -1,0 +1,4 @@
+pub mod Offsets
+pub mod Fields
+pub mod Soundness
+pub mod Changes
