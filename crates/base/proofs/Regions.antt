@@ -7,7 +7,7 @@ use lib.ListN.{length, getD, take, drop, set, length-append, length-take, length
 use lib.Seq.{length-take-le, getD-take, getD-drop, getD-append-add, sets, sets-eq, ext-getD, getD-set-same, getD-set-other, paste, paste-zero, paste-suc, take-suc, take-all}
 use native.Mathlib.Numerals.{add-one, towards-suc}
 use native.Mathlib.Nat.{add-zero, zero-add, add-assoc, add-sub-of-le, sub-self}
-use native.Mathlib.Decide.{decLt}
+use native.Mathlib.Decide.{decLt, ℕ-discrete}
 use native.Mathlib.Omega.{arith}
 use Rattle.base.specs.Regions.{put, get, shifted, gone}
 
@@ -204,3 +204,36 @@ module _ (at : ℕ) (vs d : List ℕ) (fits : at + length vs ≤ length d) where
       let p = length-put at vs d fits in
       get-same b n d (put at vs d) hb (omega arith) λ j h1 h2.
       ⊎-elim (λ l. put-before at vs d fits j (omega arith)) (λ l. put-after at vs d fits j (omega arith)) w
+
+-- a region got, changed at one place and put back is that place changed
+pub put-set : (at n : ℕ) (d : List ℕ) (x m : ℕ) → at + n ≤ length d → x < n → put at (set (get at n d) x m) d ≡ set d (at + x) m
+put-set at n d x m fits l =
+    ext-getD 0 (put at vs d) (set d (at + x) m) (length-put at vs d fits′ ∙ sym (length-set d (at + x) m)) (λ i h. at-index i (lt-or-le i at) (lt-or-le i (at + n)))
+  where
+    vs : List ℕ
+    vs = set (get at n d) x m
+
+    got : length (get at n d) ≡ n
+    got = length-get at n d fits
+
+    long : length vs ≡ n
+    long = length-set (get at n d) x m ∙ got
+
+    fits′ : at + length vs ≤ length d
+    fits′ = omega (arith, long)
+
+    inside : (k : ℕ) → k < n → Dec (k ≡ x) → getD vs k 0 ≡ getD (set d (at + x) m) (at + k) 0
+    inside k h (yes e) =
+        subst (λ (j : ℕ). getD vs j 0 ≡ getD (set d (at + x) m) (at + j) 0) (sym e)
+        (getD-set-same (get at n d) x m 0 (omega (arith, got)) ∙ sym (getD-set-same d (at + x) m 0 (omega arith)))
+    inside k h (no e) =
+        getD-set-other (get at n d) x k m 0 e ∙ get-at at n d fits k h ∙ sym (getD-set-other d (at + x) (at + k) m 0 (λ q. e (omega arith)))
+
+    at-index : (i : ℕ) → (i < at) ⊎ (at ≤ i) → (i < at + n) ⊎ (at + n ≤ i) → getD (put at vs d) i 0 ≡ getD (set d (at + x) m) i 0
+    at-index i (inl a) b = put-before at vs d fits′ i a ∙ sym (getD-set-other d (at + x) i m 0 (λ q. let z : ⊥ = omega arith in z))
+    at-index i (inr a) (inl b) =
+        let e : at + (i - at) ≡ i = omega arith in
+        subst (λ (j : ℕ). getD (put at vs d) j 0 ≡ getD (set d (at + x) m) j 0) e
+        (put-in at vs d fits′ (i - at) (omega (arith, long)) ∙ inside (i - at) (omega arith) (ℕ-discrete (i - at) x))
+    at-index i (inr a) (inr b) =
+        put-after at vs d fits′ i (omega (arith, long)) ∙ sym (getD-set-other d (at + x) i m 0 (λ q. let z : ⊥ = omega arith in z))
