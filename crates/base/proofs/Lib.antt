@@ -8,3 +8,4 @@ pub mod Counting
 pub mod Firsts
 pub mod Regions
 pub mod Ranges
+pub mod Froms

@@ -1,4 +1,5 @@
--- What holds of a list's elements, one by one or in pairs, and sums over lists and over the numbers below n.
+-- Lists made from a function, what holds of a list's elements, one by one or in pairs, and sums over lists and over the
+-- numbers below n.
 use mathlib.Core.Bool.{Bool, true, false, _&&_}
 use mathlib.Core.List.{List, [], _∷_}
 use Prim.Native.Nat.{ℕ, zero, suc, _+_}
@@ -9,6 +10,11 @@ module _ {A : Type 0} where
   without [] i = []
   without (x ∷ xs) zero = xs
   without (x ∷ xs) (suc i) = x ∷ without xs i
+
+  -- f at n numbers from i on
+  abbrev pub listFrom : (ℕ → A) → ℕ → ℕ → List A
+  listFrom f zero i = []
+  listFrom f (suc n) i = f i ∷ listFrom f n (suc i)
 
   -- P holds of every element
   abbrev pub All : (A → Type 0) → List A → Type 0

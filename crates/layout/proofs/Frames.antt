@@ -11,6 +11,7 @@ use lib.ListN.{length}
 use Rattle.base.specs.Choice.{pick}
 use Rattle.base.specs.Regions.{get}
 use Rattle.base.proofs.Tests.{fst-true, snd-true}
+use Rattle.base.proofs.Froms.{from-same}
 use Rattle.base.proofs.Regions.{get-same}
 use Rattle.paper.specs.Sizes.{mostCabinets, mostUnknowns, mostRecords, mostParts, room}
 use Rattle.paper.specs.Tables.{Record, Table}
@@ -86,16 +87,8 @@ module _ (d d′ : List ℕ) where
       plus-zero m = omega arith
 
   pub items-same : (n p : ℕ) → Same (itemFrom p) (itemFrom (p + n)) d d′ → itemsFrom d′ n p ≡ itemsFrom d n p
-  items-same zero p h = refl
-  items-same (suc n) p h =
-      ap₂ (λ (j : Item) (l : List Item). j ∷ l)
-      (item-same p p (λ k l. h (itemFrom p + k) (omega arith) (omega arith)))
-      (items-same n (suc p) (λ i a b. h i (omega arith) (omega arith)))
-
-  parts-same : (i n k : ℕ) → i < mostRecords → k + n ≤ mostParts → Same tableAt ownersAt d d′ → partsFrom d′ i n k ≡ partsFrom d i n k
-  parts-same i zero k hi hk h = refl
-  parts-same i (suc n) k hi hk h =
-      ap₂ (λ (p : ℕ) (ps : List ℕ). p ∷ ps) (h (recordFrom i + symbolBytes + 1 + k) (omega arith) (omega arith)) (parts-same i n (suc k) hi (omega arith) h)
+  items-same n p h =
+      from-same (itemAt d) (itemAt d′) n p (λ q a b. item-same q q (λ k l. h (itemFrom q + k) (omega arith) (omega arith)))
 
   module _ (s : Shaped d) (long : length d′ ≡ runBytes) where
     record-same : (i : ℕ) → i < mostRecords → Same tableAt ownersAt d d′ → recordOf d′ i ≡ recordOf d i
@@ -106,13 +99,8 @@ module _ (d d′ : List ℕ) where
         get-same (recordFrom i) symbolBytes d d′ (omega arith) (omega arith) (λ j a b. h j (omega arith) (omega arith)) in
         let c : partCountOf d′ i ≡ partCountOf d i = h (recordFrom i + symbolBytes) (omega arith) (omega arith) in
         let ps : partsFrom d′ i (partCountOf d′ i) 0 ≡ partsFrom d i (partCountOf d i) 0 =
-        rw c (parts-same i (partCountOf d i) 0 hi (omega (arith, s .parts i hi)) h) in
+        rw c (from-same (partOf d i) (partOf d′ i) (partCountOf d i) 0 (λ k a b. h (recordFrom i + symbolBytes + 1 + k) (omega arith) (omega (arith, s .parts i hi)))) in
         ap₂ (λ (n : ℕ) (l : List ℕ). record { symbol = n; parts = l }) (ap valueOf e) ps
-
-    records-same : (n i : ℕ) → i + n ≤ mostRecords → Same tableAt ownersAt d d′ → recordsFrom d′ n i ≡ recordsFrom d n i
-    records-same zero i hi h = refl
-    records-same (suc n) i hi h =
-        ap₂ (λ (q : Record) (l : List Record). q ∷ l) (record-same i (omega arith) h) (records-same n (suc i) (omega arith) h)
 
     pub table-same : Same cabinetsAt statementsAt d d′ → Same tableAt ownersAt d d′ → tableOf d′ ≡ tableOf d
     unfolding tableOf
@@ -125,7 +113,7 @@ module _ (d d′ : List ℕ) where
         b = h unknownsAt (omega arith) (omega arith)
 
         rs : recordsFrom d′ (byteAt d′ recordsAt) 0 ≡ recordsFrom d (byteAt d recordsAt) 0
-        rs = rw (h recordsAt (omega arith) (omega arith)) (records-same (byteAt d recordsAt) 0 (omega (arith, s .records)) k)
+        rs = rw (h recordsAt (omega arith) (omega arith)) (from-same (recordOf d) (recordOf d′) (byteAt d recordsAt) 0 (λ i a b. record-same i (omega (arith, s .records)) k))
 
     pub shape-same : countOf d′ ≤ room → Same cabinetsAt statementsAt d d′ → Same tableAt ownersAt d d′ → Shaped d′
     shape-same c h k =

@@ -1,2 +1,4 @@
 pub mod Frames
 pub mod Views
+pub mod Canonical
+pub mod SoundViews

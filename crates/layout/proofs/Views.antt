@@ -15,6 +15,7 @@ use Rattle.base.specs.Lists.{without}
 use Rattle.base.specs.Regions.{put, get, gone}
 use Rattle.base.proofs.Tests.{fst-true, snd-true, and-true}
 use Rattle.base.proofs.Changes.{upd-is}
+use Rattle.base.proofs.Froms.{from-without, from-last}
 use Rattle.base.proofs.Regions.{length-put, put-before, put-in, put-after, put-set, length-gone, gone-before, gone-in}
 use Rattle.paper.specs.Sizes.{mostCabinets, mostUnknowns, mostRecords, mostParts, room}
 use Rattle.paper.specs.Tables.{Record, Table}
@@ -83,25 +84,6 @@ module _ (d d′ : List ℕ) (s : Shaped d) (long : length d′ ≡ runBytes) (l
   unfolding runOf
   beside-run l e = λ i. record { stated = low statementsAt (omega arith) (omega arith) i; state = beside-state i; pending = e i }
 
-items-moved : (d d′ : List ℕ) (n p : ℕ) → ((q : ℕ) → p ≤ q → q < p + n → itemAt d′ q ≡ itemAt d (suc q)) → itemsFrom d′ n p ≡ itemsFrom d n (suc p)
-items-moved d d′ zero p h = refl
-items-moved d d′ (suc n) p h =
-    ap₂ (λ (j : Item) (l : List Item). j ∷ l) (h p (omega arith) (omega arith)) (items-moved d d′ n (suc p) (λ q a b. h q (omega arith) (omega arith)))
-
--- what stands before place p + k is as it was, and what stands from there on has moved up
-items-without : (d d′ : List ℕ) (k n p : ℕ) → k ≤ n → ((q : ℕ) → q < p + k → itemAt d′ q ≡ itemAt d q)
-    → ((q : ℕ) → p + k ≤ q → q < p + n → itemAt d′ q ≡ itemAt d (suc q)) → itemsFrom d′ n p ≡ without (itemsFrom d (suc n) p) k
-items-without d d′ zero n p h same moved = items-moved d d′ n p (λ q a b. moved q (omega arith) b)
-items-without d d′ (suc k) zero p h same moved = absurd (let z : ⊥ = omega arith in z)
-items-without d d′ (suc k) (suc n) p h same moved =
-    ap₂ (λ (j : Item) (l : List Item). j ∷ l) (same p (omega arith))
-    (items-without d d′ k n (suc p) (omega arith) (λ q a. same q (omega arith)) (λ q a b. moved q (omega arith) (omega arith)))
-
-items-last : (d : List ℕ) (n p : ℕ) → itemsFrom d (suc n) p ≡ itemsFrom d n p ++ (itemAt d (p + n) ∷ [])
-items-last d zero p = ap (λ (q : ℕ). itemAt d q ∷ []) (omega arith)
-items-last d (suc n) p =
-    ap (λ (l : List Item). itemAt d p ∷ l) (items-last d n (suc p) ∙ ap (λ (q : ℕ). itemsFrom d n (suc p) ++ (itemAt d q ∷ [])) (omega arith))
-
 module _ (d : List ℕ) (s : Shaped d) where
   -- an item goes
   module _ (p : ℕ) (h : p < countOf d) where
@@ -165,7 +147,7 @@ module _ (d : List ℕ) (s : Shaped d) where
         before (suc n) e =
             let one : suc n - 1 ≡ n = omega arith in
             rw one
-            (items-without d (removedAt p d) p n 0 (omega arith) (λ q l. stays q (omega arith)) (λ q a b. moves q (omega arith) (omega arith)))
+            (from-without (itemAt d) (itemAt (removedAt p d)) p n 0 (omega arith) (λ q l. stays q (omega arith)) (λ q a b. moves q (omega arith) (omega arith)))
 
     pub removed-shaped : Shaped (removedAt p d)
     removed-shaped = beside-shaped d (removedAt p d) s removed-long removed-low removed-mid (omega (arith, removed-count, s .count))
@@ -241,7 +223,7 @@ module _ (d : List ℕ) (s : Shaped d) where
         let one : countOf d + 1 ≡ suc (countOf d) = omega arith in
         let zero-plus : 0 + countOf d ≡ countOf d = omega arith in
         rw (appended-count, one)
-        (items-last (appended j d) (countOf d) 0
+        (from-last (itemAt (appended j d)) (countOf d) 0
         ∙ ap₂ (λ (l : List Item) (k : Item). l ++ (k ∷ []))
         (items-same d (appended j d) (countOf d) 0 (λ i a b. appended-mid i (omega arith) (omega arith)))
         (ap (itemAt (appended j d)) zero-plus ∙ decoded))

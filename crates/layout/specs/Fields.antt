@@ -6,6 +6,7 @@ use Prim.Native.Nat.{ℕ, zero, suc, _+_, _*_, _/_, _%_}
 use lib.Dec.{ltb, eqb}
 use lib.ListN.{getD}
 use Rattle.base.specs.Choice.{pick}
+use Rattle.base.specs.Lists.{listFrom}
 use Rattle.base.specs.Regions.{get}
 use Rattle.paper.specs.Sizes.{mostCabinets, mostUnknowns}
 use Rattle.paper.specs.Tables.{Record, Table}
@@ -46,8 +47,7 @@ partOf d i k = byteAt d (recordFrom i + symbolBytes + 1 + k)
 
 -- n parts of record i from the k-th on
 abbrev pub partsFrom : List ℕ → ℕ → ℕ → ℕ → List ℕ
-partsFrom d i zero k = []
-partsFrom d i (suc n) k = partOf d i k ∷ partsFrom d i n (suc k)
+partsFrom d i n k = listFrom (partOf d i) n k
 
 unfoldable pub recordOf : List ℕ → ℕ → Record
 unfolding symbolOf
@@ -55,8 +55,7 @@ recordOf d i = record { symbol = symbolOf d i; parts = partsFrom d i (partCountO
 
 -- n records from the i-th on
 abbrev pub recordsFrom : List ℕ → ℕ → ℕ → List Record
-recordsFrom d zero i = []
-recordsFrom d (suc n) i = recordOf d i ∷ recordsFrom d n (suc i)
+recordsFrom d n i = listFrom (recordOf d) n i
 
 -- "A mark is 255 for nothing, 254 for initiated (stores only), else an entry."
 abbrev pub ownerMark : ℕ → Option ℕ
@@ -88,8 +87,7 @@ itemAt d p =
 
 -- n items from place p on
 abbrev pub itemsFrom : List ℕ → ℕ → ℕ → List Item
-itemsFrom d zero p = []
-itemsFrom d (suc n) p = itemAt d p ∷ itemsFrom d n (suc p)
+itemsFrom d n p = listFrom (itemAt d) n p
 
 -- the bytes as the paper's table and run
 unfoldable pub tableOf : List ℕ → Table
