@@ -2,3 +2,4 @@ pub mod Frames
 pub mod Views
 pub mod Canonical
 pub mod SoundViews
+pub mod CanonicalKept

@@ -87,16 +87,16 @@ module _ (d d′ : List ℕ) (s : Shaped d) (long : length d′ ≡ runBytes) (l
 module _ (d : List ℕ) (s : Shaped d) where
   -- an item goes
   module _ (p : ℕ) (h : p < countOf d) where
-    closed : List ℕ
+    unfoldable pub closed : List ℕ
     closed = gone itemBytes (itemFrom p) (itemFrom (countOf d)) d
 
-    fits : itemFrom p + itemBytes ≤ itemFrom (countOf d)
+    pub fits : itemFrom p + itemBytes ≤ itemFrom (countOf d)
     fits = omega arith
 
-    ends : itemFrom (countOf d) ≤ length d
+    pub ends : itemFrom (countOf d) ≤ length d
     ends = omega (arith, s .long, s .count)
 
-    closed-long : length closed ≡ length d
+    pub closed-long : length closed ≡ length d
     unfolding closed
     closed-long = length-gone itemBytes (itemFrom p) (itemFrom (countOf d)) d fits ends
 
@@ -104,13 +104,13 @@ module _ (d : List ℕ) (s : Shaped d) where
     unfolding removedAt closed
     removed-long = length-count (countOf d - 1) closed (omega (arith, closed-long, s .long)) ∙ closed-long ∙ s .long
 
-    removed-low : Same 0 countAt d (removedAt p d)
+    pub removed-low : Same 0 countAt d (removedAt p d)
     unfolding removedAt closed
     removed-low i a b =
         count-before (countOf d - 1) closed (omega (arith, closed-long, s .long)) i b
         ∙ gone-before itemBytes (itemFrom p) (itemFrom (countOf d)) d fits ends i (omega arith)
 
-    removed-mid : Same tableAt pendingAt d (removedAt p d)
+    pub removed-mid : Same tableAt pendingAt d (removedAt p d)
     unfolding removedAt closed
     removed-mid i a b =
         count-after (countOf d - 1) closed (omega (arith, closed-long, s .long)) i a
@@ -120,7 +120,7 @@ module _ (d : List ℕ) (s : Shaped d) where
     unfolding removedAt closed
     removed-count = count-is (countOf d - 1) closed (omega (arith, closed-long, s .long)) (omega (arith, s .count))
 
-    late : (i : ℕ) → pendingAt ≤ i → byteAt (removedAt p d) i ≡ byteAt closed i
+    pub late : (i : ℕ) → pendingAt ≤ i → byteAt (removedAt p d) i ≡ byteAt closed i
     unfolding removedAt closed
     late i a = count-after (countOf d - 1) closed (omega (arith, closed-long, s .long)) i (omega arith)
 
@@ -161,7 +161,7 @@ module _ (d : List ℕ) (s : Shaped d) where
 
   -- an item comes
   module _ (j : Item) (h : countOf d < room) where
-    item-long : length (bytesOfItem j) ≡ itemBytes
+    pub item-long : length (bytesOfItem j) ≡ itemBytes
     item-long = go j
       where
         go : (k : Item) → length (bytesOfItem k) ≡ itemBytes
@@ -169,13 +169,13 @@ module _ (d : List ℕ) (s : Shaped d) where
         go (ask c x u) = refl
         go (news c x u) = refl
 
-    room-left : itemFrom (countOf d) + length (bytesOfItem j) ≤ length d
+    pub room-left : itemFrom (countOf d) + length (bytesOfItem j) ≤ length d
     room-left = omega (arith, item-long, s .long)
 
-    written : List ℕ
+    unfoldable pub written : List ℕ
     written = put (itemFrom (countOf d)) (bytesOfItem j) d
 
-    written-long : length written ≡ length d
+    pub written-long : length written ≡ length d
     unfolding written
     written-long = length-put (itemFrom (countOf d)) (bytesOfItem j) d room-left
 
@@ -183,20 +183,20 @@ module _ (d : List ℕ) (s : Shaped d) where
     unfolding appended written
     appended-long = length-count (countOf d + 1) written (omega (arith, written-long, s .long)) ∙ written-long ∙ s .long
 
-    appended-low : Same 0 countAt d (appended j d)
+    pub appended-low : Same 0 countAt d (appended j d)
     unfolding appended written
     appended-low i a b =
         count-before (countOf d + 1) written (omega (arith, written-long, s .long)) i b
         ∙ put-before (itemFrom (countOf d)) (bytesOfItem j) d room-left i (omega arith)
 
     -- everything from 8 on before the new item
-    appended-mid : (i : ℕ) → tableAt ≤ i → i < itemFrom (countOf d) → byteAt (appended j d) i ≡ byteAt d i
+    pub appended-mid : (i : ℕ) → tableAt ≤ i → i < itemFrom (countOf d) → byteAt (appended j d) i ≡ byteAt d i
     unfolding appended written
     appended-mid i a b =
         count-after (countOf d + 1) written (omega (arith, written-long, s .long)) i a
         ∙ put-before (itemFrom (countOf d)) (bytesOfItem j) d room-left i b
 
-    appended-in : (k : ℕ) → k < itemBytes → byteAt (appended j d) (itemFrom (countOf d) + k) ≡ getD (bytesOfItem j) k 0
+    pub appended-in : (k : ℕ) → k < itemBytes → byteAt (appended j d) (itemFrom (countOf d) + k) ≡ getD (bytesOfItem j) k 0
     unfolding appended written
     appended-in k l =
         count-after (countOf d + 1) written (omega (arith, written-long, s .long)) (itemFrom (countOf d) + k) (omega arith)
@@ -289,7 +289,7 @@ module _ (d d′ : List ℕ) (s : Shaped d) (long : length d′ ≡ runBytes) (s
 
 -- a byte set
 module _ (d : List ℕ) (at m : ℕ) where
-  set-other : (lo hi : ℕ) → (hi ≤ at) ⊎ (at < lo) → Same lo hi d (set d at m)
+  pub set-other : (lo hi : ℕ) → (hi ≤ at) ⊎ (at < lo) → Same lo hi d (set d at m)
   set-other lo hi w i a b = getD-set-other d at i m 0 (λ e. ⊎-elim (λ (h : hi ≤ at). omega arith) (λ (h : at < lo). omega arith) w)
 
 -- what a change is: shape and table kept, and the run with another state
@@ -444,23 +444,27 @@ module _ (d : List ℕ) (s : Shaped d) where
       p = memos-same d d′ (set-other d (storeFrom c + x) m memosAt pendingAt (inr (omega arith)))
 
   -- the clash
-  clash-twice : (c : ℕ) → (lo hi : ℕ) → cabinetsAt ≤ lo → Same lo hi d (withClash c d)
+  pub clash-twice : (c : ℕ) → (lo hi : ℕ) → cabinetsAt ≤ lo → Same lo hi d (withClash c d)
   unfolding withClash
   clash-twice c lo hi l i a b =
       set-other (set d clashAt 1) clashCabinetAt c lo hi (inr (omega arith)) i a b ∙ set-other d clashAt 1 lo hi (inr (omega arith)) i a b
 
-  clash-long : (c : ℕ) → length (withClash c d) ≡ length d
+  pub clash-long : (c : ℕ) → length (withClash c d) ≡ length d
   unfolding withClash
   clash-long c = length-set (set d clashAt 1) clashCabinetAt c ∙ length-set d clashAt 1
+
+  pub clash-byte : (c : ℕ) → byteAt (withClash c d) clashAt ≡ 1
+  unfolding withClash
+  clash-byte c =
+      getD-set-other (set d clashAt 1) clashCabinetAt clashAt c 0 (λ e. let z : ⊥ = omega arith in z)
+      ∙ getD-set-same d clashAt 1 0 (omega (arith, s .long))
 
   clash-is : (c : ℕ) → clashOf (withClash c d) ≡ some c
   unfolding withClash
   clash-is c =
-      let a : byteAt (set (set d clashAt 1) clashCabinetAt c) clashAt ≡ 1 =
-      getD-set-other (set d clashAt 1) clashCabinetAt clashAt c 0 (λ e. let z : ⊥ = omega arith in z) ∙ getD-set-same d clashAt 1 0 (omega (arith, s .long)) in
       let b : byteAt (set (set d clashAt 1) clashCabinetAt c) clashCabinetAt ≡ c =
       getD-set-same (set d clashAt 1) clashCabinetAt c 0 (omega (arith, s .long, length-set d clashAt 1)) in
-      rw (a, b)
+      rw (clash-byte c, b)
 
   pub clash-changed : (c : ℕ) → Changed d (rules.withClash (stateOf d) c) (withClash c d)
   unfolding stateOf
