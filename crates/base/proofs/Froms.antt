@@ -6,7 +6,7 @@ use mathlib.Core.Option.{some}
 use Prim.Native.Nat.{ℕ, zero, suc, _+_, _≤_, _<_}
 use native.Mathlib.Decide.{ℕ-discrete}
 use native.Mathlib.Omega.{arith}
-use lib.ListN.{length, getElem?}
+use lib.ListN.{length, getD, getElem?}
 use Rattle.base.specs.Lists.{without, listFrom, All}
 
 module _ {A : Type 0} where
@@ -18,6 +18,11 @@ module _ {A : Type 0} where
   from-place f zero i k l = absurd (let z : ⊥ = omega arith in z)
   from-place f (suc n) i zero l = ap (λ (m : ℕ). some (f m)) (omega arith)
   from-place f (suc n) i (suc k) l = from-place f n (suc i) k (omega arith) ∙ ap (λ (m : ℕ). some (f m)) (omega arith)
+
+  pub from-getD : (f : ℕ → A) (n i k : ℕ) (a : A) → k < n → getD (listFrom f n i) k a ≡ f (i + k)
+  from-getD f zero i k a l = absurd (let z : ⊥ = omega arith in z)
+  from-getD f (suc n) i zero a l = ap f (omega arith)
+  from-getD f (suc n) i (suc k) a l = from-getD f n (suc i) k a (omega arith) ∙ ap f (omega arith)
 
   pub from-same : (f g : ℕ → A) (n i : ℕ) → ((k : ℕ) → i ≤ k → k < i + n → g k ≡ f k) → listFrom g n i ≡ listFrom f n i
   from-same f g zero i h = refl

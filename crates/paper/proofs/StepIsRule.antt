@@ -32,7 +32,7 @@ in-order : (t : Table) (σ : State) → Ordered t σ → (c x y : ℕ) → σ .m
 in-order t σ m c x y e = subst (MemoOk t c x y) e (m c x y)
 
 -- for u less than x, MEM reads the pair at the greater
-mem-greater : (t : Table) (σ : State) → Ordered t σ → (c x u : ℕ) → less t u x ≡ true → Mem σ c x u → (isUnknown t u && σ .memo c x u) ≡ true
+pub mem-greater : (t : Table) (σ : State) → Ordered t σ → (c x u : ℕ) → less t u x ≡ true → Mem σ c x u → (isUnknown t u && σ .memo c x u) ≡ true
 mem-greater t σ m c x u l (inl e) =
     let h = in-order t σ m c x u e in
     rw (e, is-unknown t u (omega (arith, h .1, h .2)))
