@@ -107,7 +107,7 @@ module _ (d : List ℕ) (sh : Shaped d) (sound : Sound (tableOf d) (runOf d)) wh
   few-entries : {u : ℕ} → u < entries t → u < 254
   few-entries h = omega (arith, h, sound .table .unknowns, sound .table .count)
 
-  ordered : Ordered t σ
+  pub ordered : Ordered t σ
   unfolding runOf
   ordered = sound .state .memo
 
@@ -253,5 +253,5 @@ module _ (d : List ℕ) (sh : Shaped d) (sound : Sound (tableOf d) (runOf d)) wh
   planned (statement c a b) i = by-statement c a b i
   planned (ask c x u) i = by-ask c x u i
   planned (news c x u) i =
-      goes (subst (λ (m : Mark). Rule t 10 (news c x u) σ [] (rules.withMark σ c x m)) (sym (small-mark u (few-entries (i .1 .entry)))) arrive)
+      goes {ch = plans.mark c x u} (subst (λ (m : Mark). Rule t 10 (news c x u) σ [] (rules.withMark σ c x m)) (sym (small-mark u (few-entries (i .1 .entry)))) arrive)
       (few-cabinets (i .0), few-unknowns (less-unknown t u x (i .1 .is)))
