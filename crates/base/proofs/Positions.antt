@@ -1,11 +1,11 @@
 -- Laws of a list read from a position.
-use mathlib.Core.Path.{_≡_, sym, ap, _∙_}
+use mathlib.Core.Path.{_≡_, sym, subst, ap, _∙_}
 use mathlib.Core.List.{List, [], _∷_, _++_}
-use Prim.Native.Nat.{ℕ, zero, suc, _+_, _<_}
+use Prim.Native.Nat.{ℕ, zero, suc, _+_, _-_, _≤_, _<_}
 use native.Mathlib.Numerals.{add-one}
 use native.Mathlib.Omega.{arith}
 use lib.ListN.{length, getD, drop}
-use lib.Seq.{drop-cons, drop-nil, drop-drop, drop-append-seam}
+use lib.Seq.{drop-cons, drop-nil, drop-drop, drop-append-seam, getD-append-add}
 
 -- a position with an element, and what stands after it
 pub record ElementAt {A : Type 0} (s : List A) (at : ℕ) (d b : A) (r : List A) : Type 0 where
@@ -33,3 +33,9 @@ module _ {A : Type 0} where
   -- past a part that stands at a position
   pub drop-past : (s : List A) (at : ℕ) (b r : List A) → drop at s ≡ b ++ r → drop (at + length b) s ≡ r
   drop-past s at b r e = rw (← drop-drop (length b) at s, e) (drop-append-seam b r)
+
+-- the second of two lists, from its start on
+pub getD-past : (a b : List ℕ) (n i : ℕ) → length a ≡ n → n ≤ i → getD (a ++ b) i 0 ≡ getD b (i - n) 0
+getD-past a b n i e h =
+    let m : length a + (i - n) ≡ i = omega arith in
+    subst (λ (j : ℕ). getD (a ++ b) j 0 ≡ getD b (i - n) 0) m (getD-append-add a b (i - n) 0)

@@ -1,0 +1,1 @@
+// The statement file: reading, loading into a run, statement n, and writing.
