@@ -2,3 +2,4 @@ pub mod Offsets
 pub mod Fields
 pub mod Soundness
 pub mod Changes
+pub mod MapRows
