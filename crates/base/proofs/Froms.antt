@@ -1,9 +1,9 @@
 -- Laws of a list made from a function: f at n numbers from i on.
-use mathlib.Core.Path.{_≡_, refl, subst, ap, ap₂, _∙_}
+use mathlib.Core.Path.{_≡_, refl, sym, subst, ap, ap₂, _∙_}
 use mathlib.Core.Logic.{⊎-elim}
 use mathlib.Core.List.{List, [], _∷_, _++_}
 use mathlib.Core.Option.{some}
-use Prim.Native.Nat.{ℕ, zero, suc, _+_, _≤_, _<_}
+use Prim.Native.Nat.{ℕ, zero, suc, _+_, _-_, _≤_, _<_}
 use native.Mathlib.Decide.{ℕ-discrete}
 use native.Mathlib.Omega.{arith}
 use lib.ListN.{length, getD, getElem?}
@@ -59,3 +59,16 @@ module _ {A : Type 0} where
       go : Dec (i ≡ k) → (suc i ≤ k → P (f k)) → P (f k)
       go (yes e) later = subst (λ (j : ℕ). P (f j)) e (a .0)
       go (no e) later = later (omega arith)
+
+  -- two such lists are the same: so are their lengths and their elements
+  module _ (f g : ℕ → A) where
+    pub same-count : (n m i : ℕ) → listFrom f n i ≡ listFrom g m i → n ≡ m
+    same-count n m i e = sym (from-length f n i) ∙ ap length e ∙ from-length g m i
+
+    pub same-from : (n m i : ℕ) → listFrom f n i ≡ listFrom g m i → (k : ℕ) → i ≤ k → k < i + n → f k ≡ g k
+    same-from n m i e k l h =
+        let c : n ≡ m = same-count n m i e in
+        let j : i + (k - i) ≡ k = omega arith in
+        let p : some (f (i + (k - i))) ≡ some (g (i + (k - i))) =
+        sym (from-place f n i (k - i) (omega arith)) ∙ ap (λ (l : List A). getElem? l (k - i)) e ∙ from-place g m i (k - i) (omega arith) in
+        subst (λ (x : ℕ). f x ≡ g x) j (cc)

@@ -1,12 +1,15 @@
--- Laws of a test of every number below n: what a loop over the numbers asks, and what it means.
+-- Laws of a test of every number below n: what a loop over the numbers asks, and what it means; and of what holds from one
+-- number up to another.
 use mathlib.Core.Path.{_≡_, refl, sym, subst, _∙_}
 use mathlib.Core.Logic.{⊎-elim}
 use mathlib.Core.Bool.{Bool, true, false, _&&_}
-use Prim.Native.Nat.{ℕ, zero, suc, _+_, _≤_, _<_}
+use Prim.Native.Nat.{ℕ, zero, suc, _+_, _-_, _*_, _≤_, _<_}
+use native.Mathlib.Nat.{mul-suc}
 use native.Mathlib.Numerals.{add-one}
 use native.Mathlib.Omega.{arith}
 use Rattle.base.specs.Choice.{allBelow}
 use Rattle.base.proofs.Tests.{fst-true, snd-true, not-both, not-true-false, last-or}
+use Rattle.base.proofs.Regions.{lt-or-le}
 
 module _ (f : ℕ → Bool) where
   pub below-none : allBelow 0 f ≡ true
@@ -37,3 +40,29 @@ module _ (f : ℕ → Bool) where
 
   pub below-fails : (n i : ℕ) → i < n → f i ≡ false → allBelow n f ≡ false
   below-fails n i l e = not-true-false (allBelow n f) (λ h. not-both (f i) (below-each n h i l) e)
+
+-- P holds from lo up to hi
+abbrev pub Within : (ℕ → Type 0) → ℕ → ℕ → Type 0
+Within P lo hi = (i : ℕ) → lo ≤ i → i < hi → P i
+
+module _ (P : ℕ → Type 0) where
+  pub within-joined : (a b c : ℕ) → Within P a b → Within P b c → Within P a c
+  within-joined a b c h k i l m = ⊎-elim (λ (w : i < b). h i l w) (λ (w : b ≤ i). k i w m) (lt-or-le i b)
+
+  -- one number, and those after it
+  pub within-next : (a b c : ℕ) → b ≤ suc a → P a → Within P b c → Within P a c
+  within-next a b c n p k = within-joined a b c (λ i l m. let e : a ≡ i = omega arith in subst P e p) k
+
+  pub within-none : (a : ℕ) → Within P a a
+  within-none a i l m = absurd (let z : ⊥ = omega arith in z)
+
+  -- n numbers from `at` on
+  pub within-each : (at n : ℕ) → ((k : ℕ) → k < n → P (at + k)) → Within P at (at + n)
+  within-each at n h i l m = let e : at + (i - at) ≡ i = omega arith in subst P e (h (i - at) (omega arith))
+
+  -- n rows of w numbers from `at` on
+  pub within-rows : (at w n : ℕ) → ((q : ℕ) → q < n → Within P (at + w * q) (at + w * q + w)) → Within P at (at + w * n)
+  within-rows at w zero h = λ i l m. absurd (let z : ⊥ = omega arith in z)
+  within-rows at w (suc n) h =
+      within-joined at (at + w * n) (at + w * suc n) (within-rows at w n (λ q l. h q (omega arith)))
+      (λ i l m. h n (omega arith) i l (omega (arith, mul-suc w n)))

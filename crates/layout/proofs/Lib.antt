@@ -3,3 +3,6 @@ pub mod Views
 pub mod Canonical
 pub mod SoundViews
 pub mod CanonicalKept
+pub mod SameBytes
+pub mod SoundNumbers
+pub mod SoundRegions
