@@ -59,17 +59,17 @@ pub length-cleared : length cleared ≡ runBytes
 unfolding cleared
 length-cleared = omega (arith, length-append before (marks ++ rest), length-append marks rest, before-length, marks-length, rest-length)
 
-cleared-low : (i : ℕ) → i < ownersAt → byteAt cleared i ≡ 0
+pub cleared-low : (i : ℕ) → i < ownersAt → byteAt cleared i ≡ 0
 unfolding cleared
 cleared-low i h = List·getD-append before (marks ++ rest) 0 i (omega (arith, before-length)) ∙ getD-replicate ownersAt i 0 0 h
 
-cleared-marks : (i : ℕ) → ownersAt ≤ i → i < memosAt → byteAt cleared i ≡ 255
+pub cleared-marks : (i : ℕ) → ownersAt ≤ i → i < memosAt → byteAt cleared i ≡ 255
 unfolding cleared
 cleared-marks i a b =
     getD-past before (marks ++ rest) ownersAt i before-length a
     ∙ List·getD-append marks rest 0 (i - ownersAt) (omega (arith, marks-length)) ∙ getD-replicate (memosAt - ownersAt) (i - ownersAt) 255 0 (omega arith)
 
-cleared-rest : (i : ℕ) → memosAt ≤ i → i < runBytes → byteAt cleared i ≡ 0
+pub cleared-rest : (i : ℕ) → memosAt ≤ i → i < runBytes → byteAt cleared i ≡ 0
 unfolding cleared
 cleared-rest i a b =
     getD-past before (marks ++ rest) ownersAt i before-length (omega arith)
@@ -105,10 +105,10 @@ list-of f (x ∷ l) i h =
 
 -- a record written: its own bytes, and all else as it was
 module _ (i : ℕ) (q : Record) (d : List ℕ) (long : length d ≡ runBytes) (hi : i < mostRecords) (few : length (q .parts) ≤ mostParts) where
-  row : List ℕ
+  unfoldable pub row : List ℕ
   row = bytesOf symbolBytes (q .symbol) ++ (length (q .parts) ∷ q .parts)
 
-  row-length : length row ≡ symbolBytes + 1 + length (q .parts)
+  pub row-length : length row ≡ symbolBytes + 1 + length (q .parts)
   unfolding row
   row-length = length-append (bytesOf symbolBytes (q .symbol)) (length (q .parts) ∷ q .parts) ∙ omega (arith, bytes-length symbolBytes (q .symbol))
 
@@ -129,7 +129,7 @@ module _ (i : ℕ) (q : Record) (d : List ℕ) (long : length d ≡ runBytes) (h
       one-more : (n : ℕ) → symbolBytes + 1 + n - symbolBytes ≡ suc n
       one-more n = omega arith
 
-  fits : recordFrom i + length row ≤ length d
+  pub fits : recordFrom i + length row ≤ length d
   fits = omega (arith, row-length, long)
 
   written-long : length (withRecord i q d) ≡ length d
@@ -222,7 +222,7 @@ pub record Filled (i : ℕ) (qs : List Record) (d d′ : List ℕ) : Type 0 wher
   pub old : (k : ℕ) → k < i → recordOf d′ k ≡ recordOf d k
   pub new : recordsFrom d′ (length qs) i ≡ qs
 
-one-filled : (i : ℕ) (q : Record) (v : ℕ) (d : List ℕ) → RecordOk v q → i < mostRecords → Filling i d → Filling (suc i) (withRecord i q d)
+pub one-filled : (i : ℕ) (q : Record) (v : ℕ) (d : List ℕ) → RecordOk v q → i < mostRecords → Filling i d → Filling (suc i) (withRecord i q d)
 one-filled i q v d ok hi f =
     record {
       long = written-long i q d (f .long) hi (ok .count) ∙ f .long;
@@ -275,10 +275,10 @@ records-filled (q ∷ qs) i v d a h f =
 
 -- the sizes
 module _ (s v r e : ℕ) where
-  sized : List ℕ
+  unfoldable pub sized : List ℕ
   sized = withSizes s v r e cleared
 
-  sizes-fit : cabinetsAt + length (s ∷ v ∷ r ∷ e ∷ []) ≤ length cleared
+  pub sizes-fit : cabinetsAt + length (s ∷ v ∷ r ∷ e ∷ []) ≤ length cleared
   sizes-fit = omega (arith, length-cleared)
 
   sized-long : length sized ≡ runBytes
@@ -297,7 +297,7 @@ module _ (s v r e : ℕ) where
   unfolding sized withSizes
   sized-after i h = put-after cabinetsAt (s ∷ v ∷ r ∷ e ∷ []) cleared sizes-fit i h
 
-  sized-filling : Filling 0 sized
+  pub sized-filling : Filling 0 sized
   sized-filling =
       record {
         long = sized-long;
@@ -310,10 +310,10 @@ module _ (f : File) (ok : FileOk (f .table) (f .statements)) where
   abbrev t : Table
   t = f .table
 
-  abbrev base : List ℕ
+  abbrev pub base : List ℕ
   base = sized (t .cabinets) (t .unknowns) (length (t .records)) (length (f .statements))
 
-  abbrev tabled : List ℕ
+  abbrev pub tabled : List ℕ
   tabled = withRecords 0 (t .records) base
 
   filled : Filled 0 (t .records) base tabled
@@ -343,7 +343,7 @@ module _ (f : File) (ok : FileOk (f .table) (f .statements)) where
   filling : Filling (length (t .records)) tabled
   filling = subst (λ (n : ℕ). Filling n tabled) (zero-plus (length (t .records))) (filled .filling)
 
-  shaped : Shaped tabled
+  pub shaped : Shaped tabled
   shaped =
       record {
         long = filling .long;
@@ -430,7 +430,7 @@ module _ (f : File) (ok : FileOk (f .table) (f .statements)) where
         items = λ i a b. rest-0 i (omega arith) b;
       }
 
-  few-items : countOf tabled + length (map asItem (f .statements)) ≤ room
+  pub few-items : countOf tabled + length (map asItem (f .statements)) ≤ room
   few-items = omega (arith, count-is-zero, length-map (f .statements) asItem, ok .count)
 
   -- what loading leaves: the file's table, the paper's initial run, and sound bytes
