@@ -4,5 +4,5 @@ pub mod Canonical
 pub mod SoundViews
 pub mod CanonicalKept
 pub mod SameBytes
-pub mod SoundNumbers
-pub mod SoundRegions
+pub mod FieldLaws
+pub mod ChangeLaws

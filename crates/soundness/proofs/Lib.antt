@@ -1,0 +1,2 @@
+pub mod SoundNumbers
+pub mod SoundRegions

@@ -1,0 +1,133 @@
+-- Laws of the soundness tests on regions: a loop of tests, a conjunction that stops at a test that fails, and bytes read from
+-- the run.
+use mathlib.Core.Path.{_≡_, sym, _∙_}
+use mathlib.Core.Bool.{Bool, true, false, not, _&&_}
+use mathlib.Core.List.{List}
+use Prim.Native.Nat.{ℕ, _+_, _*_, _≤_, _<_}
+use lib.Dec.{ltb, eqb}
+use borrow.Author.Tests.{le-leb, lt-leb, eq-eqb, ne-eqb, not-true, not-false}
+use Rattle.base.specs.Choice.{pick, allBelow}
+use Rattle.base.proofs.Ranges.{below-more, below-all, below-fails}
+use Rattle.paper.specs.Sizes.{mostParts}
+use Rattle.layout.specs.Offsets.{clashAt, clashCabinetAt, cabinetsAt, unknownsAt, recordsAt, statementsAt, countAt, ownersAt, storeFrom, memoFrom, itemFrom}
+use Rattle.layout.specs.Fields.{byteAt, countOf, partCountOf, partOf}
+use Rattle.layout.specs.Soundness.{zerosAt, lesser, clashOk, sizesOk, partsOk, ownerOk, markOk, pairOk, itemOk, placeOk, regionsOk, soundBytes}
+use Rattle.soundness.proofs.SoundNumbers.{chosen-below}
+
+-- a loop over the numbers below n, whose test of i says b: it goes on, stops, or has passed all
+module _ (f : ℕ → Bool) (i : ℕ) where
+  pub goes-on : (b : Bool) → allBelow i f ≡ true → b ≡ f i → not b ≡ false → allBelow (i + 1) f ≡ true
+  goes-on b h e k = below-more f i h (sym e ∙ not-false b k)
+
+  pub stops : (n : ℕ) (b : Bool) → b ≡ f i → i < n → not b ≡ true → false ≡ allBelow n f
+  stops n b e l k = sym (below-fails f n i l (sym e ∙ not-true b k))
+
+  pub passed-all : (n : ℕ) → allBelow i f ≡ true → i ≤ n → n ≤ i → true ≡ allBelow n f
+  passed-all n h l k = sym (below-all f n i l k h)
+
+-- a conjunction whose first test says b: it goes on to the rest, or stops
+module _ (b p q : Bool) (e : b ≡ p) where
+  pub and-then : (t : Bool) → not b ≡ false → t ≡ q → t ≡ (p && q)
+  and-then t k h = rw (← e, not-false b k) h
+
+  pub and-stops : not b ≡ true → false ≡ (p && q)
+  and-stops k = rw (← e, not-true b k)
+
+module _ (n at : ℕ) (d : List ℕ) (i : ℕ) where
+  pub zeros-fail : i < n → (byteAt d (at + i) ≡ 0 → ⊥) → false ≡ zerosAt n at d
+  unfolding zerosAt
+  zeros-fail l h = sym (below-fails (λ i. eqb (byteAt d (at + i)) 0) n i l (ne-eqb _ _ h))
+
+  pub zeros-more : zerosAt i at d ≡ true → byteAt d (at + i) ≡ 0 → zerosAt (i + 1) at d ≡ true
+  unfolding zerosAt
+  zeros-more h e = below-more (λ i. eqb (byteAt d (at + i)) 0) i h (eq-eqb _ _ e)
+
+-- the tests that a region's loop makes: of part place k of record i, of the mark for x in cabinet c's store, and of the byte for
+-- x and y in its memo
+abbrev pub partOk : ℕ → ℕ → List ℕ → ℕ → Bool
+partOk v i d k = pick (ltb k (partCountOf d i)) (ltb (partOf d i k) v) (eqb (partOf d i k) 0)
+
+abbrev pub heldOk : ℕ → ℕ → ℕ → List ℕ → ℕ → ℕ → Bool
+heldOk s v r d c x = pick (ltb c s) (markOk v r x (byteAt d (storeFrom c + x))) (eqb (byteAt d (storeFrom c + x)) 255)
+
+abbrev pub pairAtOk : ℕ → ℕ → List ℕ → ℕ → ℕ → ℕ → Bool
+pairAtOk s v d c x y = pairOk s v c x y (byteAt d (memoFrom c x y))
+
+module _ (v i n : ℕ) (d : List ℕ) (e : n ≡ partCountOf d i) where
+  pub part-read : (k p : ℕ) (b : Bool) → p ≡ partOf d i k → b ≡ pick (ltb k n) (ltb p v) (eqb p 0) → b ≡ partOk v i d k
+  part-read k p b g h = rw (← g, ← e) h
+
+  pub parts-many : mostParts < n → false ≡ partsOk v i d
+  unfolding partsOk
+  parts-many h = rw (← e, lt-leb n mostParts h)
+
+  pub parts-few : (b : Bool) → n ≤ mostParts → b ≡ allBelow mostParts (partOk v i d) → b ≡ partsOk v i d
+  unfolding partsOk
+  parts-few b h k = rw (le-leb (partCountOf d i) mostParts (rw e at h)) k
+
+pub part-more : (v i n k p : ℕ) (d : List ℕ) (b : Bool)
+    → b ≡ pick (ltb k n) (ltb p v) (eqb p 0)
+    → not b ≡ false
+    → p ≡ partOf d i k
+    → n ≡ partCountOf d i
+    → allBelow k (partOk v i d) ≡ true
+    → allBelow (k + 1) (partOk v i d) ≡ true
+part-more v i n k p d b h t g e a = goes-on (partOk v i d) k b a (part-read v i n d e k p b g h) t
+
+module _ (v r x m : ℕ) (d : List ℕ) (e : m ≡ byteAt d (ownersAt + x)) where
+  pub owner-nothing : m ≡ 255 → true ≡ ownerOk v r d x
+  unfolding ownerOk
+  owner-nothing h = rw (← e, h)
+
+  pub owner-entry : (b : Bool) → (m ≡ 255 → ⊥) → b ≡ lesser v r m x → b ≡ ownerOk v r d x
+  unfolding ownerOk
+  owner-entry b h k = rw (← e, ne-eqb m 255 h) k
+
+module _ (s v r c x m : ℕ) (d : List ℕ) (b : Bool) (e : m ≡ byteAt d (storeFrom c + x))
+    (h : b ≡ pick (ltb c s) (markOk v r x m) (eqb m 255)) where
+  pub held-read : b ≡ heldOk s v r d c x
+  held-read = rw (← e) h
+
+  pub held-more : not b ≡ false → allBelow x (heldOk s v r d c) ≡ true → allBelow (x + 1) (heldOk s v r d c) ≡ true
+  held-more t a = goes-on (heldOk s v r d c) x b a held-read t
+
+module _ (s v c x y m : ℕ) (d : List ℕ) (b : Bool) (e : m ≡ byteAt d (memoFrom c x y)) (h : b ≡ pairOk s v c x y m) where
+  pub pair-read : b ≡ pairAtOk s v d c x y
+  pair-read = rw (← e) h
+
+  pub pair-more : not b ≡ false → allBelow y (pairAtOk s v d c x) ≡ true → allBelow (y + 1) (pairAtOk s v d c x) ≡ true
+  pair-more t a = goes-on (pairAtOk s v d c x) y b a pair-read t
+
+pub place-item : (s v r n p k c l m : ℕ) (d : List ℕ) (b : Bool)
+    → k ≡ byteAt d (itemFrom p)
+    → c ≡ byteAt d (itemFrom p + 1)
+    → l ≡ byteAt d (itemFrom p + 2)
+    → m ≡ byteAt d (itemFrom p + 3)
+    → p < n
+    → b ≡ itemOk s v r k c l m
+    → b ≡ placeOk s v r n d p
+unfolding placeOk
+place-item s v r n p k c l m d b e₀ e₁ e₂ e₃ h t = chosen-below _ _ _ p n h (cc)
+
+pub clash-read : (s a c : ℕ) (d : List ℕ) (b : Bool)
+    → a ≡ byteAt d clashAt
+    → c ≡ byteAt d clashCabinetAt
+    → b ≡ clashOk s a c
+    → b ≡ clashOk s (byteAt d clashAt) (byteAt d clashCabinetAt)
+clash-read s a c d b e₀ e₁ h = cc
+
+-- the sizes as read, with the two bytes of the pending count
+module _ (d : List ℕ) (s v r e lo hi : ℕ) (t : Bool) (es : s ≡ byteAt d cabinetsAt) (ev : v ≡ byteAt d unknownsAt)
+    (er : r ≡ byteAt d recordsAt) (ee : e ≡ byteAt d statementsAt) (el : lo ≡ byteAt d countAt)
+    (eh : hi ≡ byteAt d (countAt + 1)) (et : t ≡ sizesOk s v r e (lo + 256 * hi)) where
+  sizes-read : t ≡ sizesOk (byteAt d cabinetsAt) (byteAt d unknownsAt) (byteAt d recordsAt) (byteAt d statementsAt) (countOf d)
+  unfolding countOf
+  sizes-read = rw (← es, ← ev, ← er, ← ee, ← el, ← eh) et
+
+  pub sound-sizes-fail : not t ≡ true → false ≡ soundBytes d
+  unfolding soundBytes
+  sound-sizes-fail k = and-stops t _ _ sizes-read k
+
+  pub sound-regions : (b : Bool) → not t ≡ false → b ≡ regionsOk s v r (lo + 256 * hi) d → b ≡ soundBytes d
+  unfolding soundBytes countOf
+  sound-regions b k h = and-then t _ _ sizes-read b k (rw (← es, ← ev, ← er, ← el, ← eh) h)

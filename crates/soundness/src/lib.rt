@@ -1,0 +1,418 @@
+// Whether a run's 59,752 bytes are sound: one test for each region of document 01's table, each over the definition of its
+// name in specs/Soundness.antt. The sizes are tested first, so that no sum of them can overflow.
+ghost use mathlib.Core.Path.{_≡_};
+ghost use Prim.Native.Nat.{_+_, _<_, _≤_};
+ghost use lib.Dec.{ltb, eqb};
+ghost use lib.ListN.{length};
+ghost use Rattle.base.specs.Choice.{pick};
+ghost use Rattle.paper.specs.Sizes.{mostCabinets, mostUnknowns, mostRecords, room};
+ghost use Rattle.layout.specs.Offsets.{runBytes};
+ghost use Rattle.layout.specs.Soundness.{zerosAt, lesser, clashOk, sizesOk, partsOk, recordOk, recordsOk, ownerOk, ownersOk, markOk, storeOk, storesOk, pairOk, memoRowOk, memoOk, memosOk, itemOk, placeOk, itemsOk, regionsOk, soundBytes};
+
+// The limits of document 01.
+const MOST_CABINETS: usize = 8;
+
+const MOST_UNKNOWNS: usize = 32;
+
+const MOST_RECORDS: usize = 64;
+
+const MOST_STATEMENTS: usize = 64;
+
+const MOST_PARTS: usize = 4;
+
+const ROOM: usize = 12672;
+
+// The marks that are no entry.
+const NOTHING: usize = 255;
+
+const INITIATED: usize = 254;
+
+// Where each region starts, and how many bytes each of its pieces has.
+const TABLE_AT: usize = 8;
+
+const RECORD_BYTES: usize = 9;
+
+const SYMBOL_BYTES: usize = 4;
+
+const OWNERS_AT: usize = 584;
+
+const STORES_AT: usize = 616;
+
+const MEMOS_AT: usize = 872;
+
+const MEMO_BYTES: usize = 1024;
+
+const PENDING_AT: usize = 9064;
+
+const ITEM_BYTES: usize = 4;
+
+// A byte as a number.
+fn wide(x: u8) -> usize
+    ensures { λ r. ⌜ (r ≡ x) × (r < 256) ⌝ }
+{
+    x as usize
+}
+
+// Whether the n bytes from `at` on are 0.
+fn zeros_at(run: &[u8], n: usize, at: usize) -> bool
+    requires { ⌜ at + n ≤ length (now run) ⌝ }
+    ensures { λ b. ⌜ b ≡ zerosAt n at (now (run .entry)) ⌝ }
+{
+    let mut i = 0;
+    while i < n {
+        if run[at + i] != 0 {
+            return false;
+        }
+        i += 1;
+    }
+    true
+}
+
+// Whether u is an entry less than the unknown x: a record, or an unknown with a smaller number.
+fn lesser(v: usize, r: usize, u: usize, x: usize) -> bool
+    requires { ⌜ (v ≤ mostUnknowns) × (r ≤ mostRecords) ⌝ }
+    ensures { λ b. ⌜ b ≡ lesser v r u x ⌝ }
+{
+    if x >= v {
+        return false;
+    }
+    if u < v {
+        return u < x;
+    }
+    u < v + r
+}
+
+// Whether bytes 0 and 1 are sound: running and 0, or clashed and a cabinet below S.
+fn clash_ok(s: usize, a: usize, c: usize) -> bool
+    ensures { λ b. ⌜ b ≡ clashOk s a c ⌝ }
+{
+    if a == 0 {
+        return c == 0;
+    }
+    if a != 1 {
+        return false;
+    }
+    c < s
+}
+
+// Whether S, V, R, E and the pending count are in their ranges.
+fn sizes_ok(s: usize, v: usize, r: usize, e: usize, n: usize) -> bool
+    ensures { λ b. ⌜ b ≡ sizesOk s v r e n ⌝ }
+{
+    if s < 1 {
+        return false;
+    }
+    if s > MOST_CABINETS {
+        return false;
+    }
+    if v > MOST_UNKNOWNS {
+        return false;
+    }
+    if r > MOST_RECORDS {
+        return false;
+    }
+    if e > MOST_STATEMENTS {
+        return false;
+    }
+    n <= ROOM
+}
+
+// Whether p can stand at part place k of a record with n parts: an unknown below the count, else 0.
+fn part_ok(v: usize, n: usize, k: usize, p: usize) -> bool
+    ensures { λ b. ⌜ b ≡ pick (ltb k n) (ltb p v) (eqb p 0) ⌝ }
+{
+    if k < n {
+        return p < v;
+    }
+    p == 0
+}
+
+// Whether the part count and the four part places of record i, one below R, are sound.
+fn parts_ok(run: &[u8], v: usize, i: usize) -> bool
+    requires { ⌜ (length (now run) ≡ runBytes) × (i < mostRecords) ⌝ }
+    ensures { λ b. ⌜ b ≡ partsOk v i (now (run .entry)) ⌝ }
+{
+    let n = wide(run[TABLE_AT + RECORD_BYTES * i + SYMBOL_BYTES]);
+    if n > MOST_PARTS {
+        return false;
+    }
+    let mut k = 0;
+    while k < MOST_PARTS {
+        let p = wide(run[TABLE_AT + RECORD_BYTES * i + SYMBOL_BYTES + 1 + k]);
+        if !part_ok(v, n, k, p) {
+            return false;
+        }
+        k += 1;
+    }
+    true
+}
+
+// Whether record i is sound: its parts if it is below R, else all its bytes are 0.
+fn record_ok(run: &[u8], v: usize, r: usize, i: usize) -> bool
+    requires { ⌜ (length (now run) ≡ runBytes) × (i < mostRecords) ⌝ }
+    ensures { λ b. ⌜ b ≡ recordOk v r (now (run .entry)) i ⌝ }
+{
+    if i < r {
+        return parts_ok(run, v, i);
+    }
+    zeros_at(run, RECORD_BYTES, TABLE_AT + RECORD_BYTES * i)
+}
+
+// Whether all 64 records are sound.
+fn records_ok(run: &[u8], v: usize, r: usize) -> bool
+    requires { ⌜ length (now run) ≡ runBytes ⌝ }
+    ensures { λ b. ⌜ b ≡ recordsOk v r (now (run .entry)) ⌝ }
+{
+    let mut i = 0;
+    while i < MOST_RECORDS {
+        if !record_ok(run, v, r, i) {
+            return false;
+        }
+        i += 1;
+    }
+    true
+}
+
+// Whether the owner mark of x is sound: 255, or an entry less than x.
+fn owner_ok(run: &[u8], v: usize, r: usize, x: usize) -> bool
+    requires { ⌜ (length (now run) ≡ runBytes) × (v ≤ mostUnknowns) × (r ≤ mostRecords) × (x < mostUnknowns) ⌝ }
+    ensures { λ b. ⌜ b ≡ ownerOk v r (now (run .entry)) x ⌝ }
+{
+    let u = wide(run[OWNERS_AT + x]);
+    if u == NOTHING {
+        return true;
+    }
+    lesser(v, r, u, x)
+}
+
+// Whether all 32 owner marks are sound.
+fn owners_ok(run: &[u8], v: usize, r: usize) -> bool
+    requires { ⌜ (length (now run) ≡ runBytes) × (v ≤ mostUnknowns) × (r ≤ mostRecords) ⌝ }
+    ensures { λ b. ⌜ b ≡ ownersOk v r (now (run .entry)) ⌝ }
+{
+    let mut x = 0;
+    while x < MOST_UNKNOWNS {
+        if !owner_ok(run, v, r, x) {
+            return false;
+        }
+        x += 1;
+    }
+    true
+}
+
+// Whether m can stand for x in the store of a cabinet below S: 255, 254 for an unknown, or an entry less than x.
+fn mark_ok(v: usize, r: usize, x: usize, m: usize) -> bool
+    requires { ⌜ (v ≤ mostUnknowns) × (r ≤ mostRecords) ⌝ }
+    ensures { λ b. ⌜ b ≡ markOk v r x m ⌝ }
+{
+    if m == NOTHING {
+        return true;
+    }
+    if m == INITIATED {
+        return x < v;
+    }
+    lesser(v, r, m, x)
+}
+
+// Whether m can stand for x in the store of cabinet c: 255 alone from S on.
+fn held_ok(s: usize, v: usize, r: usize, c: usize, x: usize, m: usize) -> bool
+    requires { ⌜ (v ≤ mostUnknowns) × (r ≤ mostRecords) ⌝ }
+    ensures { λ b. ⌜ b ≡ pick (ltb c s) (markOk v r x m) (eqb m 255) ⌝ }
+{
+    if c < s {
+        return mark_ok(v, r, x, m);
+    }
+    m == NOTHING
+}
+
+// Whether the 32 marks of cabinet c's store are sound.
+fn store_ok(run: &[u8], s: usize, v: usize, r: usize, c: usize) -> bool
+    requires { ⌜ (length (now run) ≡ runBytes) × (v ≤ mostUnknowns) × (r ≤ mostRecords) × (c < mostCabinets) ⌝ }
+    ensures { λ b. ⌜ b ≡ storeOk s v r (now (run .entry)) c ⌝ }
+{
+    let mut x = 0;
+    while x < MOST_UNKNOWNS {
+        let m = wide(run[STORES_AT + MOST_UNKNOWNS * c + x]);
+        if !held_ok(s, v, r, c, x, m) {
+            return false;
+        }
+        x += 1;
+    }
+    true
+}
+
+// Whether all eight stores are sound.
+fn stores_ok(run: &[u8], s: usize, v: usize, r: usize) -> bool
+    requires { ⌜ (length (now run) ≡ runBytes) × (v ≤ mostUnknowns) × (r ≤ mostRecords) ⌝ }
+    ensures { λ b. ⌜ b ≡ storesOk s v r (now (run .entry)) ⌝ }
+{
+    let mut c = 0;
+    while c < MOST_CABINETS {
+        if !store_ok(run, s, v, r, c) {
+            return false;
+        }
+        c += 1;
+    }
+    true
+}
+
+// Whether b can stand for the pair of x and y in cabinet c's memo: 0, or 1 for two unknowns in order below S.
+fn pair_ok(s: usize, v: usize, c: usize, x: usize, y: usize, b: usize) -> bool
+    ensures { λ k. ⌜ k ≡ pairOk s v c x y b ⌝ }
+{
+    if b == 0 {
+        return true;
+    }
+    if b != 1 {
+        return false;
+    }
+    if c >= s {
+        return false;
+    }
+    if x >= v {
+        return false;
+    }
+    y < x
+}
+
+// Whether the 32 bytes for the greater unknown x in cabinet c's memo are sound.
+fn memo_row_ok(run: &[u8], s: usize, v: usize, c: usize, x: usize) -> bool
+    requires { ⌜ (length (now run) ≡ runBytes) × (c < mostCabinets) × (x < mostUnknowns) ⌝ }
+    ensures { λ b. ⌜ b ≡ memoRowOk s v (now (run .entry)) c x ⌝ }
+{
+    let mut y = 0;
+    while y < MOST_UNKNOWNS {
+        let b = wide(run[MEMOS_AT + MEMO_BYTES * c + MOST_UNKNOWNS * x + y]);
+        if !pair_ok(s, v, c, x, y, b) {
+            return false;
+        }
+        y += 1;
+    }
+    true
+}
+
+// Whether cabinet c's memo is sound.
+fn memo_ok(run: &[u8], s: usize, v: usize, c: usize) -> bool
+    requires { ⌜ (length (now run) ≡ runBytes) × (c < mostCabinets) ⌝ }
+    ensures { λ b. ⌜ b ≡ memoOk s v (now (run .entry)) c ⌝ }
+{
+    let mut x = 0;
+    while x < MOST_UNKNOWNS {
+        if !memo_row_ok(run, s, v, c, x) {
+            return false;
+        }
+        x += 1;
+    }
+    true
+}
+
+// Whether all eight memos are sound.
+fn memos_ok(run: &[u8], s: usize, v: usize) -> bool
+    requires { ⌜ length (now run) ≡ runBytes ⌝ }
+    ensures { λ b. ⌜ b ≡ memosOk s v (now (run .entry)) ⌝ }
+{
+    let mut c = 0;
+    while c < MOST_CABINETS {
+        if !memo_ok(run, s, v, c) {
+            return false;
+        }
+        c += 1;
+    }
+    true
+}
+
+// Whether an item of kind k at cabinet c, with left a and right b, is sound: a statement of two entries, or an ask or a news
+// with an unknown at left and a lesser entry at right.
+fn item_ok(s: usize, v: usize, r: usize, k: usize, c: usize, a: usize, b: usize) -> bool
+    requires { ⌜ (v ≤ mostUnknowns) × (r ≤ mostRecords) ⌝ }
+    ensures { λ t. ⌜ t ≡ itemOk s v r k c a b ⌝ }
+{
+    if c >= s {
+        return false;
+    }
+    if k == 1 {
+        if a >= v + r {
+            return false;
+        }
+        return b < v + r;
+    }
+    if k == 2 {
+        return lesser(v, r, b, a);
+    }
+    if k != 3 {
+        return false;
+    }
+    lesser(v, r, b, a)
+}
+
+// Whether place p of the pending items is sound: an item if it is below the count n, else four bytes of 0.
+fn place_ok(run: &[u8], s: usize, v: usize, r: usize, n: usize, p: usize) -> bool
+    requires { ⌜ (length (now run) ≡ runBytes) × (v ≤ mostUnknowns) × (r ≤ mostRecords) × (p < room) ⌝ }
+    ensures { λ b. ⌜ b ≡ placeOk s v r n (now (run .entry)) p ⌝ }
+{
+    let at = PENDING_AT + ITEM_BYTES * p;
+    if p < n {
+        let k = wide(run[at]);
+        let c = wide(run[at + 1]);
+        let a = wide(run[at + 2]);
+        let b = wide(run[at + 3]);
+        return item_ok(s, v, r, k, c, a, b);
+    }
+    zeros_at(run, ITEM_BYTES, at)
+}
+
+// Whether all 12,672 places of pending items are sound.
+fn items_ok(run: &[u8], s: usize, v: usize, r: usize, n: usize) -> bool
+    requires { ⌜ (length (now run) ≡ runBytes) × (v ≤ mostUnknowns) × (r ≤ mostRecords) ⌝ }
+    ensures { λ b. ⌜ b ≡ itemsOk s v r n (now (run .entry)) ⌝ }
+{
+    let mut p = 0;
+    while p < ROOM {
+        if !place_ok(run, s, v, r, n, p) {
+            return false;
+        }
+        p += 1;
+    }
+    true
+}
+
+// Whether the regions that depend on the sizes are sound.
+fn regions_ok(run: &[u8], s: usize, v: usize, r: usize, n: usize) -> bool
+    requires { ⌜ (length (now run) ≡ runBytes) × (v ≤ mostUnknowns) × (r ≤ mostRecords) ⌝ }
+    ensures { λ b. ⌜ b ≡ regionsOk s v r n (now (run .entry)) ⌝ }
+{
+    let a = wide(run[0]);
+    let c = wide(run[1]);
+    if !clash_ok(s, a, c) {
+        return false;
+    }
+    if !records_ok(run, v, r) {
+        return false;
+    }
+    if !owners_ok(run, v, r) {
+        return false;
+    }
+    if !stores_ok(run, s, v, r) {
+        return false;
+    }
+    if !memos_ok(run, s, v) {
+        return false;
+    }
+    items_ok(run, s, v, r, n)
+}
+
+// Whether the run is sound. Sizes out of range are refused before any sum of them is taken.
+pub fn sound(run: &[u8]) -> bool
+    requires { ⌜ length (now run) ≡ runBytes ⌝ }
+    ensures { λ b. ⌜ b ≡ soundBytes (now (run .entry)) ⌝ }
+{
+    let s = wide(run[2]);
+    let v = wide(run[3]);
+    let r = wide(run[4]);
+    let e = wide(run[5]);
+    let n = wide(run[6]) + 256 * wide(run[7]);
+    if !sizes_ok(s, v, r, e, n) {
+        return false;
+    }
+    regions_ok(run, s, v, r, n)
+}
