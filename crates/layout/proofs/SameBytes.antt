@@ -136,7 +136,7 @@ module _ (d e : List ℕ) (sd : Shaped d) (se : Shaped e) (bd : Bytes d) (be : B
       (within-next Alike cabinetsAt unknownsAt tableAt (omega arith) (ap (λ (t : Table). t .cabinets) tables)
       (within-next Alike unknownsAt recordsAt tableAt (omega arith) (ap (λ (t : Table). t .unknowns) tables)
       (within-next Alike recordsAt statementsAt tableAt (omega arith) record-counts
-      (within-next Alike statementsAt countAt tableAt (omega arith) (ap (λ (r : Run). r .stated) runs)
+      (within-next Alike statementsAt countAt tableAt (omega arith) (ap (λ (r : Run). r .statements) runs)
       (within-next Alike countAt (countAt + 1) tableAt (omega arith) l (within-next Alike (countAt + 1) tableAt tableAt (omega arith) (omega arith) (within-none Alike tableAt))))))))
 
   -- 8: a record below R, then all

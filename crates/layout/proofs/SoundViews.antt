@@ -80,11 +80,11 @@ pub record Tested (d : List ℕ) : Type 0 where
 
 -- the sizes in their ranges
 pub record InRange (d : List ℕ) : Type 0 where
-  pub some : 1 ≤ byteAt d cabinetsAt
+  pub one : 1 ≤ byteAt d cabinetsAt
   pub cabinets : byteAt d cabinetsAt ≤ mostCabinets
   pub unknowns : byteAt d unknownsAt ≤ mostUnknowns
   pub records : byteAt d recordsAt ≤ mostRecords
-  pub stated : byteAt d statementsAt ≤ mostStatements
+  pub statements : byteAt d statementsAt ≤ mostStatements
   pub count : countOf d ≤ room
 
 module _ (d : List ℕ) where
@@ -116,11 +116,11 @@ module _ (d : List ℕ) where
       let c = three (leb v mostUnknowns) (leb r mostRecords) (leb e mostStatements && leb (countOf d) room) (a .1) in
       let f = both (leb e mostStatements) (leb (countOf d) room) (c .2) in
       record {
-        some = leb-true 1 s (b .0);
+        one = leb-true 1 s (b .0);
         cabinets = leb-true s mostCabinets (b .1);
         unknowns = leb-true v mostUnknowns (c .0);
         records = leb-true r mostRecords (c .1);
-        stated = leb-true e mostStatements (f .0);
+        statements = leb-true e mostStatements (f .0);
         count = leb-true (countOf d) room (f .1);
       }
 
@@ -128,11 +128,11 @@ module _ (d : List ℕ) where
   unfolding sizesOk
   range-in w =
       rw (
-        le-leb 1 (byteAt d cabinetsAt) (w .some),
+        le-leb 1 (byteAt d cabinetsAt) (w .one),
         le-leb (byteAt d cabinetsAt) mostCabinets (w .cabinets),
         le-leb (byteAt d unknownsAt) mostUnknowns (w .unknowns),
         le-leb (byteAt d recordsAt) mostRecords (w .records),
-        le-leb (byteAt d statementsAt) mostStatements (w .stated),
+        le-leb (byteAt d statementsAt) mostStatements (w .statements),
         le-leb (countOf d) room (w .count),
       )
 
@@ -254,7 +254,7 @@ module _ (d : List ℕ) (long : length d ≡ runBytes) (w : Tested d) where
   unfolding tableOf recordOf
   table-ok b =
       record {
-        some = range .some;
+        one = range .one;
         cabinets = range .cabinets;
         unknowns = range .unknowns;
         count = omega (arith, from-length (recordOf d) (byteAt d recordsAt) 0, range .records);
@@ -444,7 +444,7 @@ module _ (d : List ℕ) (long : length d ≡ runBytes) (w : Tested d) where
   view-sound b =
       record {
         table = table-ok b;
-        stated = range .stated;
+        statements = range .statements;
         state = record { clash = clash-ok .0; owner = owner-ok; store = store-ok; memo = memo-ok };
         items = from-all (ItemOk (tableOf d)) (itemAt d) (countOf d) 0 (λ p a l. item p (omega arith));
         fits = omega (arith, from-length (itemAt d) (countOf d) 0, range .count);
@@ -489,11 +489,11 @@ module _ (d : List ℕ) (s : Shaped d) (k : Sound (tableOf d) (runOf d)) (z : Ca
   unfolding tableOf runOf
   ranges =
       record {
-        some = k .table .some;
+        one = k .table .one;
         cabinets = k .table .cabinets;
         unknowns = k .table .unknowns;
         records = s .records;
-        stated = k .stated;
+        statements = k .statements;
         count = s .count;
       }
 

@@ -30,10 +30,10 @@ use Rattle.layout.proofs.Frames.{Same, Shaped, clash-same, count-same, 
 
 -- a run that differs in its pending items, or in its state
 abbrev pub pendingNow : Run → List Item → Run
-pendingNow r l = record { stated = r .stated; state = r .state; pending = l }
+pendingNow r l = record { statements = r .statements; state = r .state; pending = l }
 
 abbrev pub stateNow : Run → State → Run
-stateNow r σ = record { stated = r .stated; state = σ; pending = r .pending }
+stateNow r σ = record { statements = r .statements; state = σ; pending = r .pending }
 
 -- the count
 module _ (n : ℕ) (d : List ℕ) (long : 8 ≤ length d) where
@@ -82,7 +82,7 @@ module _ (d d′ : List ℕ) (s : Shaped d) (long : length d′ ≡ runBytes) (l
 
   pub beside-run : (l : List Item) → itemsFrom d′ (countOf d′) 0 ≡ l → runOf d′ ≡ pendingNow (runOf d) l
   unfolding runOf
-  beside-run l e = λ i. record { stated = low statementsAt (omega arith) (omega arith) i; state = beside-state i; pending = e i }
+  beside-run l e = λ i. record { statements = low statementsAt (omega arith) (omega arith) i; state = beside-state i; pending = e i }
 
 module _ (d : List ℕ) (s : Shaped d) where
   -- an item goes
@@ -285,7 +285,7 @@ module _ (d d′ : List ℕ) (s : Shaped d) (long : length d′ ≡ runBytes) (s
 
   pub kept-run : (σ : State) → stateOf d′ ≡ σ → runOf d′ ≡ stateNow (runOf d) σ
   unfolding runOf
-  kept-run σ e = λ i. record { stated = sizes statementsAt (omega arith) (omega arith) i; state = e i; pending = kept-items i }
+  kept-run σ e = λ i. record { statements = sizes statementsAt (omega arith) (omega arith) i; state = e i; pending = kept-items i }
 
 -- a byte set
 module _ (d : List ℕ) (at m : ℕ) where

@@ -100,4 +100,4 @@ stateOf d = record { clash = clashOf d; owner = ownerOf d; store = markOf d; mem
 
 unfoldable pub runOf : List ℕ → Run
 unfolding stateOf itemAt countOf
-runOf d = record { stated = byteAt d statementsAt; state = stateOf d; pending = itemsFrom d (countOf d) 0 }
+runOf d = record { statements = byteAt d statementsAt; state = stateOf d; pending = itemsFrom d (countOf d) 0 }

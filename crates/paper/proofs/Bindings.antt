@@ -47,7 +47,7 @@ owner-stays (lose d) y w e = e
 owner-stays arrive y w e = e
 
 -- a news tells the owner's entry
-abbrev Tells : (ℕ → Option ℕ) → Item → Type 0
+abbrev pub Tells : (ℕ → Option ℕ) → Item → Type 0
 Tells o (statement c a b) = Unit {0}
 Tells o (ask c x u) = Unit {0}
 Tells o (news c x u) = o x ≡ some u
@@ -335,8 +335,7 @@ module _ (t : Table) where
   all-cabinets x (j ∷ l) a =
       omega (arith, sum-add (t .cabinets) (λ c. newsAt c x j) (λ c. total (newsAt c x) l), one-cabinet x j (a .0), all-cabinets x l (a .1))
 
-  -- "for each unknown with an owner mark, pending news plus cabinets holding that entry come to S; an unknown without one has
-  -- no news and no cabinet holding an entry for it"
+  -- both halves of document 01's sentence in one equation; that each entry held and each news is the owner's is `one-binding`
   pub news-come-to-S : (qs : List Statement) → FileOk t qs → {n : ℕ} {r : Run} → Reached t qs n r → (x : ℕ)
       → total (newsOf x) (r .pending) + sum (t .cabinets) (λ c. holds (r .state .store c x)) ≡ t .cabinets * told (r .state .owner x)
   news-come-to-S qs ok {r = r} h x =
@@ -349,4 +348,25 @@ module _ (t : Table) where
         sum-add (t .cabinets) (λ c. holds (r .state .store c x)) (λ c. total (newsAt c x) (r .pending)),
         all-cabinets x (r .pending) (reached-sound t qs ok h .items),
         sum-const (t .cabinets) (told (r .state .owner x)),
+      )
+
+  -- "From an accepted file, for each unknown with an owner mark, pending news plus cabinets holding that entry come to S;"
+  pub owned-news-come-to-S : (qs : List Statement) → FileOk t qs → {n : ℕ} {r : Run} → Reached t qs n r → (x u : ℕ)
+      → r .state .owner x ≡ some u → total (newsOf x) (r .pending) + sum (t .cabinets) (λ c. holds (r .state .store c x)) ≡ t .cabinets
+  owned-news-come-to-S qs ok {r = r} h x u e =
+      let one : told (r .state .owner x) ≡ 1 = ap told e in
+      let all : t .cabinets * told (r .state .owner x) ≡ t .cabinets * 1 = ap (λ (k : ℕ). t .cabinets * k) one in
+      omega (arith, news-come-to-S qs ok h x, all)
+
+  -- "an unknown without one has no news and no cabinet holding an entry for it"
+  pub unowned-has-no-news : (qs : List Statement) → FileOk t qs → {n : ℕ} {r : Run} → Reached t qs n r → (x : ℕ)
+      → r .state .owner x ≡ none → (total (newsOf x) (r .pending) ≡ 0) × ((c v : ℕ) → r .state .store c x ≡ entry v → ⊥)
+  unowned-has-no-news qs ok {r = r} h x e =
+      let zero-told : told (r .state .owner x) ≡ 0 = ap told e in
+      let all : t .cabinets * told (r .state .owner x) ≡ t .cabinets * 0 = ap (λ (k : ℕ). t .cabinets * k) zero-told in (
+        omega (arith, news-come-to-S qs ok h x, all),
+        λ c v d.
+            let o : r .state .owner x ≡ some v = one-binding t qs ok h .entries c x v d in
+            let z : _≡_ {A = ℕ} 0 1 = cc in
+            omega arith,
       )

@@ -1,4 +1,5 @@
--- The map program's run of an accepted file is made by accepted steps and comes to an end, by the step count.
+-- The map program's run of an accepted file is made by accepted steps, at the places that it draws, and comes to an end, by
+-- the step count.
 use mathlib.Core.Path.{_≡_, refl, sym, subst, ap, _∙_}
 use mathlib.Core.Logic.{_⊎_, inl, inr, ⊎-elim}
 use mathlib.Core.Bool.{Bool, true, false, not}
@@ -18,21 +19,22 @@ use Rattle.base.proofs.Firsts.{first-within, first-passes, first-before}
 use Rattle.base.proofs.Elements.{place-some, some-place}
 use Rattle.paper.specs.Tables.{Table}
 use Rattle.paper.specs.Runs.{Statement, State, Run, initial}
-use Rattle.paper.specs.Steps.{Effect, rests, takes, effect, isRest, itemWaits, waitsAt, performed, Outcome, refused, done, step}
-use Rattle.paper.specs.Reached.{FileOk, Reached, loaded, stepped, Clashed, Finished, Over}
+use Rattle.paper.specs.Rules.{Waits}
+use Rattle.paper.specs.Steps.{Effect, itWaits, takes, effect, isWaiting, itemWaits, waitsAt, performed, Outcome, refused, done, step}
+use Rattle.paper.specs.Reached.{FileOk, Reached, loaded, stepped, Along, none-left, one-more, Clashed, Finished, Over}
 use Rattle.paper.specs.Files.{File}
 use Rattle.paper.specs.Counts.{mostSteps}
-use Rattle.paper.specs.Programs.{firstState, nextState, drawnPlace, isReady, readyPlace, chosen, drawn, drawnRun}
+use Rattle.paper.specs.Programs.{firstState, nextState, drawnPlace, isReady, readyPlace, chosen, Drawn, noMore, takenFirst, drawn, drawnFile, drawnRun}
 use Rattle.paper.specs.declared.Item.{Item}
-use Rattle.paper.proofs.StepIsRule.{Waits, Takes, takes-or-waits, waits-rests, step-at}
+use Rattle.paper.proofs.StepIsRule.{Takes, takes-or-waits, waiting-effect, step-at}
 use Rattle.paper.proofs.Soundness.{reached-sound}
 use Rattle.paper.proofs.StepCounts.{step-count}
 use Rattle.paper.proofs.Progress.{Goes, takes-goes, some-item-goes}
 
 module _ (t : Table) (r : Run) (i : ℕ) (j : Item) (e : getElem? (r .pending) i ≡ some j) where
-  waits-is-rest : waitsAt t r i ≡ isRest (effect t (r .state) j)
+  waits-at-place : waitsAt t r i ≡ isWaiting (effect t (r .state) j)
   unfolding waitsAt
-  waits-is-rest = ap (itemWaits t (r .state)) e
+  waits-at-place = ap (itemWaits t (r .state)) e
 
 -- Where some place below the count is ready, the place taken is below the count and ready.
 module _ (t : Table) (r : Run) (g : ℕ) (below : g < length (r .pending)) (ready : T (isReady t r g)) where
@@ -65,11 +67,11 @@ nil : (l : List Item) → length l ≡ 0 → l ≡ []
 nil [] e = refl
 nil (j ∷ l) e = absurd (let z : ⊥ = omega arith in z)
 
-not-rest : (b : Bool) → b ≡ true → T (not b) → ⊥
-not-rest b e h = T-not b h (true-T b e)
+not-ready : (b : Bool) → b ≡ true → T (not b) → ⊥
+not-ready b e h = T-not b h (true-T b e)
 
 -- an end of a file's run
-pub record Ended (t : Table) (qs : List Statement) (r : Run) : Type 0 where
+pub record RunEnded (t : Table) (qs : List Statement) (r : Run) : Type 0 where
   pub steps : ℕ
   pub reached : Reached t qs steps r
   pub over : Over r
@@ -83,7 +85,7 @@ module _ (t : Table) (qs : List Statement) (ok : FileOk t qs) where
         let ordered = reached-sound t qs ok h .state .memo in
         ⊎-elim (λ (w : Takes t (r .state) (p .0)). (w .number, _, takes-goes t qs ok n r h free i (p .0) (p .1) w))
         (λ (w : Waits t (r .state) (p .0)).
-        absurd (not-rest (waitsAt t r i) (waits-is-rest t r i (p .0) (p .1) ∙ ap isRest (waits-rests t (r .state) ordered w)) k))
+        absurd (not-ready (waitsAt t r i) (waits-at-place t r i (p .0) (p .1) ∙ ap isWaiting (waiting-effect t (r .state) ordered w)) k))
         (takes-or-waits t (r .state) ordered (p .0))
 
     -- an accepted place is ready
@@ -95,8 +97,8 @@ module _ (t : Table) (qs : List Statement) (ok : FileOk t qs) where
         go none e = absurd (let d : refused 13 ≡ done (g .rule) (g .run) = rw (free, e) at (g .is) in let z : _≡_ {A = ℕ} 0 1 = cc in omega arith)
         go (some j) e = (some-place (r .pending) (g .place) j e, not-T (waitsAt t r (g .place)) (λ w. awake (effect t (r .state) j) refl (rw e at w)))
           where
-            awake : (f : Effect) → effect t (r .state) j ≡ f → T (isRest f) → ⊥
-            awake rests d w =
+            awake : (f : Effect) → effect t (r .state) j ≡ f → T (isWaiting f) → ⊥
+            awake itWaits d w =
                 let d′ : refused 14 ≡ done (g .rule) (g .run) =
                 sym (ap (performed r (without (r .pending) (g .place))) d) ∙ sym (step-at t r (reached-sound t qs ok h) free (g .place) j e) ∙ g .is in
                 let z : _≡_ {A = ℕ} 0 1 = cc in
@@ -113,10 +115,10 @@ module _ (t : Table) (qs : List Statement) (ok : FileOk t qs) where
         ready-goes (chosen t r x) (p .0) (p .1)
 
   -- with steps to spare up to the step count, the drawn run is over
-  drawn-ends : (k x n : ℕ) (r : Run) → Reached t qs n r → mostSteps (t .cabinets) (t .unknowns) (length qs) ≤ n + k → Ended t qs (drawn t k x r)
+  drawn-ends : (k x n : ℕ) (r : Run) → Reached t qs n r → mostSteps (t .cabinets) (t .unknowns) (length qs) ≤ n + k → RunEnded t qs (drawn t k x r .run)
   drawn-ends zero x n r h m = go (r .state .clash) refl (length (r .pending)) refl
     where
-      go : (c : Option ℕ) → r .state .clash ≡ c → (l : ℕ) → length (r .pending) ≡ l → Ended t qs r
+      go : (c : Option ℕ) → r .state .clash ≡ c → (l : ℕ) → length (r .pending) ≡ l → RunEnded t qs r
       go (some c) d l e = record { steps = n; reached = h; over = inl (c, d) }
       go none d zero e = record { steps = n; reached = h; over = inr (record { unclashed = d; empty = nil (r .pending) e }) }
       go none d (suc l) e =
@@ -125,16 +127,45 @@ module _ (t : Table) (qs : List Statement) (ok : FileOk t qs) where
   drawn-ends (suc k) x n r h m = go (r .state .clash) refl (length (r .pending)) refl (λ y q h′. drawn-ends k y (suc n) q h′ (omega arith))
     where
       go : (c : Option ℕ) → r .state .clash ≡ c → (l : ℕ) → length (r .pending) ≡ l
-          → ((y : ℕ) (q : Run) → Reached t qs (suc n) q → Ended t qs (drawn t k y q)) → Ended t qs (drawn t (suc k) x r)
+          → ((y : ℕ) (q : Run) → Reached t qs (suc n) q → RunEnded t qs (drawn t k y q .run)) → RunEnded t qs (drawn t (suc k) x r .run)
       go (some c) d l e ih = rw (d, drawn) (record { steps = n; reached = h; over = inl (c, d) })
       go none d zero e ih = rw (d, e, drawn) (record { steps = n; reached = h; over = inr (record { unclashed = d; empty = nil (r .pending) e }) })
       go none d (suc l) e ih =
           let w = chosen-goes n r h d (nextState x) (omega arith) in
-          rw (d, e, w .2, drawn) (ih (nextState x) (w .1) (stepped h (chosen t r (nextState x)) (w .0) (w .2)))
+          rw (d, e, w .2, drawn, takenFirst) (ih (nextState x) (w .1) (stepped h (chosen t r (nextState x)) (w .0) (w .2)))
 
 -- "It reads a file on standard input and draws its places": the run that it makes is reached by accepted steps and is over.
-pub drawn-run-ends : (f : File) → FileOk (f .table) (f .statements) → Ended (f .table) (f .statements) (drawnRun f)
-unfolding drawnRun
+pub drawn-run-ends : (f : File) → FileOk (f .table) (f .statements) → RunEnded (f .table) (f .statements) (drawnRun f)
+unfolding drawnRun drawnFile
 drawn-run-ends f ok =
     drawn-ends (f .table) (f .statements) ok (mostSteps (f .table .cabinets) (f .table .unknowns) (length (f .statements))) firstState 0
     (initial (f .statements)) loaded (omega arith)
+
+module _ (t : Table) where
+  -- so many drawn steps are accepted steps at their places
+  along : (k x : ℕ) (r : Run) → Along t r (drawn t k x r .places) (drawn t k x r .run)
+  along zero x r = none-left
+  along (suc k) x r =
+      go (r .state .clash) refl (length (r .pending)) refl (step t r (chosen t r (nextState x))) refl (λ q. along k (nextState x) q)
+    where
+      AlongOf : Drawn → Type 0
+      AlongOf d = Along t r (d .places) (d .run)
+
+      is : (z : Drawn) → ((y : Drawn) → z ≡ y → drawn t (suc k) x r ≡ y) → AlongOf z → AlongOf (drawn t (suc k) x r)
+      is z e h = subst AlongOf (sym (e z refl)) h
+
+      go : (c : Option ℕ) → r .state .clash ≡ c → (l : ℕ) → length (r .pending) ≡ l → (o : Outcome)
+          → step t r (chosen t r (nextState x)) ≡ o → ((q : Run) → Along t q (drawn t k (nextState x) q .places) (drawn t k (nextState x) q .run))
+          → AlongOf (drawn t (suc k) x r)
+      go (some c) d l e o w ih = is (noMore r) (λ y h. rw (d, drawn) h) none-left
+      go none d zero e o w ih = is (noMore r) (λ y h. rw (d, e, drawn) h) none-left
+      go none d (suc l) e (refused m) w ih = is (noMore r) (λ y h. rw (d, e, w, drawn, takenFirst) h) none-left
+      go none d (suc l) e (done m q) w ih =
+          is (record { places = chosen t r (nextState x) ∷ drawn t k (nextState x) q .places; run = drawn t k (nextState x) q .run })
+          (λ y h. rw (d, e, w, drawn, takenFirst) h) (one-more w (ih q))
+
+-- "draws its places": the run that it makes is the run after the places that it takes, in their order
+pub drawn-run-along-its-places : (f : File) → Along (f .table) (initial (f .statements)) (drawnFile f .places) (drawnRun f)
+unfolding drawnRun drawnFile
+drawn-run-along-its-places f =
+    along (f .table) (mostSteps (f .table .cabinets) (f .table .unknowns) (length (f .statements))) firstState (initial (f .statements))

@@ -2,6 +2,7 @@ pub mod BenchSheet
 pub mod BenchRows
 pub mod Ranks
 pub mod StepIsRule
+pub mod Refusals
 pub mod Soundness
 pub mod Potential
 pub mod StepCounts
@@ -14,6 +15,7 @@ pub mod DepthTwoLess
 pub mod MetPairs
 pub mod MetPairsEnd
 pub mod Chains
+pub mod SoundRuns
 pub mod Settled
 pub mod History
 pub mod Rows
@@ -27,4 +29,5 @@ pub mod RoundTrip
 pub mod FirstFault
 pub mod StatementParts
 pub mod OneResult
+pub mod ListOfSteps
 pub mod DrawnRun

@@ -11,7 +11,7 @@ use Rattle.base.proofs.Changes.{upd-same}
 use Rattle.paper.specs.Tables.{Table}
 use Rattle.paper.specs.Runs.{Mark, Statement, State, Run, Sound}
 use Rattle.paper.specs.Rules.{after, Carried}
-use Rattle.paper.specs.Steps.{Local, Act, waits, acts, act, Effect, rests, takes, local, effect, Outcome, refused, done, performed, step}
+use Rattle.paper.specs.Steps.{Local, Act, waits, acts, act, Effect, itWaits, takes, local, effect, Outcome, refused, done, performed, step}
 use Rattle.paper.specs.Reached.{FileOk, Reached}
 use Rattle.paper.specs.Locality.{SameStep, both-refused, both-done}
 use Rattle.paper.specs.declared.Item.{Item}

@@ -1,5 +1,5 @@
--- "A pair already met in answering one question is not compared again and no depth is counted; the answer is still that of
--- depth V."
+-- Met pairs: "a pair already met in answering one question is not compared again and no depth is counted; the answer is still
+-- that of depth V".
 use mathlib.Core.Path.{_≡_, sym, subst, subst₂}
 use mathlib.Core.Logic.{_⊎_, inl, inr, ⊎-elim}
 use mathlib.Core.Bool.{Bool, false, _||_}

@@ -14,7 +14,7 @@ use Rattle.paper.specs.Reached.{FileOk, Reached, Clashed, Finished, Over
 use Rattle.paper.specs.Alike.{Stated, Alike, Clash, Agree}
 use Rattle.paper.specs.Ends.{agree, endOf}
 use Rattle.paper.specs.Maps.{Row, IsRow, rowOf, mapRow, rowsFrom, mapRows}
-use Rattle.paper.specs.Sets.{SameItems, SameSet}
+use Rattle.paper.specs.SameStatements.{SameItems, SameSet, OneResult, both-clash, same-map}
 use Rattle.paper.specs.declared.Item.{Item}
 use Rattle.paper.proofs.Soundness.{reached-sound}
 use Rattle.paper.proofs.Chains.{owners-fall}
@@ -97,10 +97,10 @@ module _ (t t′ : Table) (qs qs′ : List Statement) (ok : FileOk t qs) (ok′ 
       ∙ ap (λ (k : ℕ). rowsFrom t′ r′ k 0) (items .0)
 
   -- "Both clash, exactly when the statements cannot all hold, or both give the same map"
-  pub one-result : Over r → Over r′ → (Clashed r × Clashed r′ × Clash t qs) ⊎ ((Clash t qs → ⊥) × (mapRows t r ≡ mapRows t′ r′))
+  pub one-result : Over r → Over r′ → OneResult t t′ qs r r′
   one-result (inl c) o′ =
       let k = clashed-statements-clash t qs ok h c in
-      inl (c, clashes-exactly t′ qs′ ok′ h′ o′ .1 (same-clash t t′ qs qs′ items said k), k)
+      both-clash c (clashes-exactly t′ qs′ ok′ h′ o′ .1 (same-clash t t′ qs qs′ items said k)) k
   one-result (inr f) (inl c′) =
       absurd (finished-no-clash t qs ok n r h f (same-clash t′ t qs′ qs (items-back t t′ items) (same-back said) (clashed-statements-clash t′ qs′ ok′ h′ c′)))
-  one-result (inr f) (inr f′) = inr (finished-no-clash t qs ok n r h f, finished-alike f f′)
+  one-result (inr f) (inr f′) = same-map f f′ (finished-no-clash t qs ok n r h f) (finished-alike f f′)

@@ -10,13 +10,13 @@ use Rattle.base.specs.Lists.{without, total, Member, here, there}
 use Rattle.base.proofs.Elements.{member-place, all-member}
 use Rattle.paper.specs.Tables.{Table}
 use Rattle.paper.specs.Runs.{Mark, initiated, Statement, State, Run, initial, ItemOk}
-use Rattle.paper.specs.Rules.{after, Carried}
+use Rattle.paper.specs.Rules.{Waits, waiting, after, Carried}
 use Rattle.paper.specs.Steps.{Outcome, refused, done, step}
 use Rattle.paper.specs.Reached.{FileOk, Reached, loaded, stepped, Later, same, next, Clashed, Finished, Over}
 use Rattle.paper.specs.Counts.{mostSteps, told, holds}
 use Rattle.paper.specs.declared.Item.{Item}
 use Rattle.paper.specs.declared.Item.the-variants.{Statement as statement, Ask as ask, News as news}
-use Rattle.paper.proofs.StepIsRule.{rule-is-done, Waits, waiting, Takes, takes-or-waits}
+use Rattle.paper.proofs.StepIsRule.{rule-is-done, Takes, takes-or-waits}
 use Rattle.paper.proofs.Soundness.{reached-sound, item-ok}
 use Rattle.paper.proofs.StepCounts.{rule-fits, step-count}
 use Rattle.paper.proofs.Bindings.{newsAt, Told, reached-told}
@@ -89,20 +89,20 @@ module _ (t : Table) (qs : List Statement) (ok : FileOk t qs) where
         go (j ∷ l) e = first j (ap (λ (m : List Item). getElem? m 0) e)
 
   -- an end that accepted steps lead to from r
-  pub record Ends (r : Run) : Type 0 where
+  pub record CarriedOn (r : Run) : Type 0 where
     pub last : Run
     pub steps : ℕ
     pub later : Later t r last
     pub reached : Reached t qs steps last
     pub over : Over last
 
-  carried-on : (k n : ℕ) (p r : Run) → Later t p r → Reached t qs n r → mostSteps (t .cabinets) (t .unknowns) (length qs) < n + k → Ends p
+  carried-on : (k n : ℕ) (p r : Run) → Later t p r → Reached t qs n r → mostSteps (t .cabinets) (t .unknowns) (length qs) < n + k → CarriedOn p
   carried-on zero n p r a h m = absurd (let z : ⊥ = omega (arith, step-count t qs ok h) in z)
   carried-on (suc k) n p r a h m =
       go (r .state .clash) refl (r .pending) refl (λ q b h′. carried-on k (suc n) p q b h′ (omega arith))
     where
       go : (c : Option ℕ) → r .state .clash ≡ c → (l : List Item) → r .pending ≡ l
-          → ((q : Run) → Later t p q → Reached t qs (suc n) q → Ends p) → Ends p
+          → ((q : Run) → Later t p q → Reached t qs (suc n) q → CarriedOn p) → CarriedOn p
       go (some c) d l d′ ih = record { last = r; steps = n; later = a; reached = h; over = inl (c, d) }
       go none d [] d′ ih = record { last = r; steps = n; later = a; reached = h; over = inr (record { unclashed = d; empty = d′ }) }
       go none d (j ∷ l) d′ ih =
@@ -110,5 +110,5 @@ module _ (t : Table) (qs : List Statement) (ok : FileOk t qs) where
           ih (w .run) (next a (w .place) (w .rule) (w .is)) (stepped h (w .place) (w .rule) (w .is))
 
   -- Every run from an accepted file can be carried to an end.
-  pub every-run-ends : {n : ℕ} {r : Run} → Reached t qs n r → Ends r
+  pub every-run-ends : {n : ℕ} {r : Run} → Reached t qs n r → CarriedOn r
   every-run-ends {n} {r} h = carried-on (suc (mostSteps (t .cabinets) (t .unknowns) (length qs))) n r r same h (omega arith)

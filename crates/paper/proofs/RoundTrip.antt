@@ -1,12 +1,12 @@
 -- A file written and read is the file, and an accepted file read and written is its bytes, at most 836.
 use mathlib.Core.Path.{_≡_, refl, sym, subst, ap, ap₂, _∙_}
 use mathlib.Core.Bool.{Bool, true, false}
-use mathlib.Core.List.{List, [], _∷_, _++_, append-nil}
-use Prim.Native.Nat.{ℕ, suc, _+_, _*_, _≤_, _<_}
+use mathlib.Core.List.{List, [], _∷_, _++_, map, append-nil}
+use Prim.Native.Nat.{ℕ, suc, _+_, _-_, _*_, _≤_, _<_}
 use native.Mathlib.Omega.{arith}
 use borrow.Author.Tests.{ltb-false, le-ltb}
 use lib.Dec.{ltb}
-use lib.ListN.{length, replicate, drop, length-append, drop-of-length-le}
+use lib.ListN.{length, replicate, drop, length-append, length-replicate, drop-of-length-le}
 use Rattle.base.specs.Choice.{pick}
 use Rattle.base.specs.Lists.{All}
 use Rattle.base.proofs.Elements.{all-replicate}
@@ -15,9 +15,11 @@ use Rattle.paper.specs.Sizes.{mostCabinets, mostUnknowns, mostRecords, m
 use Rattle.paper.specs.Refusals.{partNotUnknown, noSuchEntry, bytesLeft}
 use Rattle.paper.specs.Numbers.{numberBytes}
 use Rattle.paper.specs.Tables.{Record, RecordOk, Table, TableOk, entries}
-use Rattle.paper.specs.Runs.{Statement}
+use Rattle.paper.specs.Runs.{Statement, Run, asItem, initial}
 use Rattle.paper.specs.Reached.{StatementOk, FileOk}
-use Rattle.paper.specs.Files.{Form, end, _>>=_, number, times, recordForm, tableForm, statementForm, countForm, fileForm, File, Read, got, fault, reading, ended, readFile, each, recordBytes, statementBytes, tableBytes, fileBytes}
+use Rattle.paper.specs.Files.{Form, end, _>>=_, number, times, recordForm, tableForm, statementForm, countForm, fileForm, File, Read, got, fault, reading, ended, readFile, each, recordBytes, statementBytes, tableBytes, fileBytes, paddedFile}
+use Rattle.paper.specs.Replies.{AsLoaded}
+use Rattle.paper.specs.declared.Item.{Item}
 use Rattle.paper.proofs.NumberCodec.{Bytes, number-one, number-most}
 use Rattle.paper.proofs.Forms.{Spells, more, number-spells, spells-next, number-codec, Codec, spells-made, made-spells, spells-bind, bind-spells, times-codec, codec-there, codec-back, fault-got}
 
@@ -60,7 +62,7 @@ table-codec = record { there = there; back = back }
         let c : t .cabinets < suc mostCabinets = omega (arith, h .cabinets) in
         let v : t .unknowns < suc mostUnknowns = omega (arith, h .unknowns) in
         let r : length (t .records) < suc mostRecords = omega (arith, h .count) in
-        more (t .cabinets) (h .some) c (omega arith)
+        more (t .cabinets) (h .one) c (omega arith)
         (number-spells (t .unknowns) v (omega arith)
         (number-spells (length (t .records)) r (omega arith)
         (made-spells (λ qs. record { cabinets = t .cabinets; unknowns = t .unknowns; records = qs })
@@ -85,7 +87,7 @@ table-codec = record { there = there; back = back }
               ∙ append-after (numberBytes (c .value))
               (v .bytes ∙ append-after (numberBytes (v .value)) (r .bytes ∙ ap₂ _++_ (ap numberBytes (sym m)) (p .0))),
           record {
-            some = c .least;
+            one = c .least;
             cabinets = omega (arith, c .most);
             unknowns = few;
             count = omega (arith, r .most);
@@ -221,21 +223,32 @@ statement-most t k q h =
     let b = number-one (q .right) (omega (arith, h .right)) in
     simp length-append (omega arith)
 
--- "The longest is 836 bytes."
-pub no-longer : (s : List ℕ) → Bytes s → (f : File) (at : ℕ) → readFile s ≡ got f at → length s ≤ longestFile
+-- what is written is no longer than the longest file
+pub written-no-longer : (f : File) → FileOk (f .table) (f .statements) → length (fileBytes f) ≤ longestFile
 unfolding fileBytes tableBytes
-no-longer s y f at e =
-    let i = read-written s y f at e in
+written-no-longer f ok =
     let t = f .table in
-    let k = i .ok .table in
+    let k = ok .table in
     let c = number-one (t .cabinets) (omega (arith, k .cabinets)) in
     let v = number-one (t .unknowns) (omega (arith, k .unknowns)) in
     let r = number-one (length (t .records)) (omega (arith, k .count)) in
-    let n = number-one (length (f .statements)) (omega (arith, i .ok .count)) in
+    let n = number-one (length (f .statements)) (omega (arith, ok .count)) in
     let records =
     each-most recordBytes (RecordOk (t .unknowns)) recordMost (record-most (t .unknowns) (k .unknowns)) (t .records) (k .records) in
-    let statements = each-most statementBytes (StatementOk t) 3 (statement-most t k) (f .statements) (i .ok .statements) in
-    rw (i .bytes) (simp length-append (omega (arith, k .count, i .ok .count)))
+    let statements = each-most statementBytes (StatementOk t) 3 (statement-most t k) (f .statements) (ok .statements) in
+    simp length-append (omega (arith, k .count, ok .count))
+
+-- "The longest is 836 bytes."
+pub no-longer : (s : List ℕ) → Bytes s → (f : File) (at : ℕ) → readFile s ≡ got f at → length s ≤ longestFile
+no-longer s y f at e = let i = read-written s y f at e in rw (i .bytes) (written-no-longer f (i .ok))
+
+padded : (b : List ℕ) → length b ≤ longestFile → length (b ++ replicate (longestFile - length b) 0) ≡ 836
+padded b h = simp (length-append, length-replicate) (omega arith)
+
+-- The writer's "exactly 836 bytes": of every accepted file the padded bytes are as many.
+pub padded-is-836 : (f : File) → FileOk (f .table) (f .statements) → length (paddedFile f) ≡ 836
+unfolding paddedFile
+padded-is-836 f ok = padded (fileBytes f) (written-no-longer f ok)
 
 -- as many records, parts and statements as may be, and the largest symbol
 longest : File
@@ -258,7 +271,7 @@ as-long = (longest, ok, refl)
     ok =
         record {
           table = record {
-            some = omega arith;
+            one = omega arith;
             cabinets = omega arith;
             unknowns = omega arith;
             count = omega arith;
@@ -271,3 +284,21 @@ as-long = (longest, ok, refl)
               all-replicate (StatementOk (longest .table)) mostStatements _
               (record { cabinet = omega arith; left = omega arith; right = omega arith });
         }
+
+-- pending items tell their statements
+same-statements : (qs qs′ : List Statement) → map asItem qs ≡ map asItem qs′ → qs ≡ qs′
+same-statements [] [] e = refl
+same-statements [] (q ∷ qs′) e = absurd (let z : _≡_ {A = ℕ} 0 1 = cc in omega arith)
+same-statements (q ∷ qs) [] e = absurd (let z : _≡_ {A = ℕ} 0 1 = cc in omega arith)
+same-statements (q ∷ qs) (q′ ∷ qs′) e =
+    let c : q .cabinet ≡ q′ .cabinet = cc in
+    let a : q .left ≡ q′ .left = cc in
+    let b : q .right ≡ q′ .right = cc in
+    let l : map asItem qs ≡ map asItem qs′ = cc in
+    let one : q ≡ q′ = λ i. record { cabinet = c i; left = a i; right = b i } in
+    ap₂ _∷_ one (same-statements qs qs′ l)
+
+-- "The writer accepts a run only as loading some file leaves it": of one list of statements, so that the file is one
+pub loaded-from-one-file : (t : Table) (r : Run) (v w : AsLoaded t r) → v .statements ≡ w .statements
+unfolding initial
+loaded-from-one-file t r v w = same-statements (v .statements) (w .statements) (ap (λ (p : Run). p .pending) (sym (v .is) ∙ w .is))

@@ -21,6 +21,7 @@ use Rattle.paper.specs.declared.Item.{Item}
 use Rattle.paper.specs.declared.Item.the-variants.{Statement as statement, Ask as ask, News as news}
 use Rattle.paper.proofs.Ranks.{rank, rank-unknown, rank-pos, less-rank, unknown-is}
 use Rattle.paper.proofs.StepIsRule.{done-is-rule}
+use Rattle.paper.proofs.Refusals.{unclashed}
 
 pub record-ok : (t : Table) → TableOk t → (a : ℕ) → RecordOk (t .unknowns) (recordAt t a)
 record-ok t k a =
@@ -108,15 +109,6 @@ module _ (t : Table) where
 pub item-ok : (t : Table) (r : Run) → Sound t r → (i : ℕ) (j : Item) → getElem? (r .pending) i ≡ some j → ItemOk t j
 item-ok t r s i j e = all-at (ItemOk t) (r .pending) i j e (s .items)
 
--- A step of a sound run that is accepted was unclashed.
-pub unclashed : (t : Table) (r : Run) (i k : ℕ) (r′ : Run) → step t r i ≡ done k r′ → r .state .clash ≡ none
-unfolding step
-unclashed t r i k r′ e = go (r .state .clash) refl
-  where
-    go : (o : Option ℕ) → r .state .clash ≡ o → r .state .clash ≡ none
-    go none d = d
-    go (some c) d = absurd (let e′ : refused 15 ≡ done k r′ = rw d at e in let z : _≡_ {A = ℕ} 0 1 = cc in omega arith)
-
 -- Soundness is kept by every accepted step of any sound run.
 pub soundness-kept : (t : Table) (r : Run) → Sound t r → (i k : ℕ) (r′ : Run) → step t r i ≡ done k r′ → Sound t r′
 soundness-kept t r s i k r′ e =
@@ -128,7 +120,7 @@ soundness-kept t r s i k r′ e =
     subst (Sound t) (sym (v .run))
     (record {
       table = s .table;
-      stated = s .stated;
+      statements = s .statements;
       state = h .0;
       items = all-append (ItemOk t) left (v .products) (all-without (ItemOk t) (r .pending) i (s .items)) (h .1);
       fits = fits;
@@ -144,7 +136,7 @@ unfolding initial
 loaded-sound t qs k =
     record {
       table = k .table;
-      stated = k .count;
+      statements = k .count;
       state = record { clash = tt; owner = λ x. tt; store = λ c x. tt; memo = λ c x y. tt };
       items = statements-ok t qs (k .statements);
       fits = omega (arith, length-map qs asItem, k .count);

@@ -9,7 +9,7 @@ use Rattle.paper.specs.Tables.{Table, Record, recordAt}
 use Rattle.paper.specs.Runs.{Statement}
 use Rattle.paper.specs.Alike.{Alike, given, self, back, via, part, Clash, Agree}
 use Rattle.paper.specs.Maps.{Look, openLook, recordLook, Row, IsLowest, IsLook, IsRow}
-use Rattle.paper.specs.Sets.{SameItems, Said, SameSet}
+use Rattle.paper.specs.SameStatements.{SameItems, Said, SameSet}
 
 pub same-back : {qs qs′ : List Statement} → SameSet qs qs′ → SameSet qs′ qs
 same-back same a b = (same a b .1, same a b .0)

@@ -3,7 +3,7 @@
 use mathlib.Core.Path.{_≡_, refl, sym, subst, ap, _∙_}
 use mathlib.Core.Bool.{Bool, true, false, _&&_}
 use mathlib.Core.List.{List, [], _∷_}
-use mathlib.Core.Option.{none}
+use mathlib.Core.Option.{Option, none, some}
 use Prim.Native.Nat.{ℕ, zero, suc, _+_, _*_, _-_, _/_, _≤_, _<_}
 use native.Mathlib.Nat.{le-refl, mul-le-mul-left, mul-le-mul}
 use native.Mathlib.Omega.{arith}
@@ -14,7 +14,7 @@ use Rattle.base.specs.Choice.{pick}
 use Rattle.base.specs.Lists.{total, sum}
 use Rattle.base.proofs.Counting.{bit, bit-le}
 use Rattle.paper.specs.Sizes.{room}
-use Rattle.paper.specs.Refusals.{noRoom}
+use Rattle.paper.specs.Refusals.{hasClashed, noRoom}
 use Rattle.paper.specs.Tables.{Table, isUnknown}
 use Rattle.paper.specs.Runs.{Statement, State, Run}
 use Rattle.paper.specs.Rules.{Carried}
@@ -25,6 +25,7 @@ use Rattle.paper.specs.declared.Item.{Item}
 use Rattle.paper.specs.declared.Item.the-variants.{Statement as statement, Ask as ask, News as news}
 use Rattle.paper.proofs.Ranks.{rank, rank-unknown, rank-le}
 use Rattle.paper.proofs.StepIsRule.{full-exactly}
+use Rattle.paper.proofs.Refusals.{clashed-exactly}
 use Rattle.paper.proofs.Soundness.{reached-sound}
 use Rattle.paper.proofs.Potential.{Scale, weigh, potential, items-le, most, spent, spent-more}
 
@@ -261,7 +262,14 @@ module _ (t : Table) (qs : List Statement) (ok : FileOk t qs) where
       (omega (arith, spent-more t (load-scale t 1) 4 (load-le t 1) qs ok h (reached-sound t qs ok h) free i k r′ v)))
 
   -- "So 18 comes only from runs made by hand."
-  pub never-full : {n : ℕ} {r : Run} → Reached t qs n r → r .state .clash ≡ none → (i : ℕ) → step t r i ≡ refused noRoom → ⊥
-  never-full {n} {r} h free i e =
-      let w = full-exactly t r (reached-sound t qs ok h) free i .0 e in
-      omega (arith, w .3, rule-fits h free i (w .0) (w .1) (w .2))
+  pub never-full : {n : ℕ} {r : Run} → Reached t qs n r → (i : ℕ) → step t r i ≡ refused noRoom → ⊥
+  never-full {n} {r} h i e = go (r .state .clash) refl
+    where
+      go : (o : Option ℕ) → r .state .clash ≡ o → ⊥
+      go none free =
+          let w = full-exactly t r (reached-sound t qs ok h) free i .0 e in
+          omega (arith, w .3, rule-fits h free i (w .0) (w .1) (w .2))
+      go (some c) d =
+          let f : refused hasClashed ≡ refused noRoom = sym (clashed-exactly t r i .1 (c, d)) ∙ e in
+          let z : hasClashed ≡ noRoom = cc in
+          omega arith

@@ -18,8 +18,8 @@ use Rattle.paper.specs.Sizes.{room}
 use Rattle.paper.specs.Refusals.{stillWaits, noRoom}
 use Rattle.paper.specs.Tables.{Table, isUnknown, isRecord, recordAt, less, sameHead}
 use Rattle.paper.specs.Runs.{Mark, nothing, initiated, entry, State, Run, MemoOk, StateOk, Sound}
-use Rattle.paper.specs.Rules.{withClash, withOwner, withMark, withPair, Mem, add, partStatements, newsTo, Rule, interchange, memo, dereference, identify, conflict, decompose, initiate, win, lose, arrive, after, Carried}
-use Rattle.paper.specs.Steps.{act, answer, Effect, rests, takes, local, answered, effect, Outcome, refused, done, performed, taken, running, step}
+use Rattle.paper.specs.Rules.{withClash, withOwner, withMark, withPair, Mem, add, partStatements, newsTo, Rule, interchange, memo, dereference, identify, conflict, decompose, initiate, win, lose, arrive, Waits, waiting, after, Carried}
+use Rattle.paper.specs.Steps.{act, answer, Effect, itWaits, takes, local, answered, effect, Outcome, refused, done, performed, taken, running, step}
 use Rattle.paper.specs.declared.Item.{Item}
 use Rattle.paper.specs.declared.Item.the-variants.{Statement as statement, Ask as ask, News as news}
 use Rattle.paper.proofs.Ranks.{rank, Kind, unknown, recorded, kind, unknown-is, is-unknown, not-unknown, record-is, is-record, less-rank, rank-less, not-less-rank, rank-unknown, rank-record, rank-pos}
@@ -114,10 +114,7 @@ module _ (t : Table) where
       rw e (answer-kept t σ c x 9 [] (some v) ∙ owner-kept σ x 9 [] (some v) e)
   rule-effect m arrive = refl
 
--- an item takes a rule or waits
-pub data Waits (t : Table) (σ : State) : Item → Type 0 where
-  waiting : {c x u : ℕ} → less t u x ≡ true → σ .store c x ≡ initiated → Waits t σ (statement c x u)
-
+-- an item takes a rule
 pub record Takes (t : Table) (σ : State) (j : Item) : Type 0 where
   pub number : ℕ
   pub products : List Item
@@ -162,17 +159,19 @@ module _ (t : Table) (σ : State) (m : Ordered t σ) where
   by-ask c x u none e = by-rule (win e)
   by-ask c x u (some v) e = by-rule (lose e)
 
+  -- an item takes a rule or waits
   pub takes-or-waits : (j : Item) → Takes t σ j ⊎ Waits t σ j
   takes-or-waits (statement c a b) = by-statement c a b
   takes-or-waits (ask c x u) = by-ask c x u (σ .owner x) refl
   takes-or-waits (news c x u) = by-rule arrive
 
-  pub waits-rests : {j : Item} → Waits t σ j → effect t σ j ≡ rests
+  -- what waits has no effect
+  pub waiting-effect : {j : Item} → Waits t σ j → effect t σ j ≡ itWaits
   unfolding effect act
-  waits-rests (waiting {c = c} {x = x} {u = u} l e) = rw (not-less-back t u x l, l, e)
+  waiting-effect (waiting {c = c} {x = x} {u = u} l e) = rw (not-less-back t u x l, l, e)
 
-  rests-takes : {k : ℕ} {ps : List Item} {σ′ : State} → rests ≡ takes k ps σ′ → ⊥
-  rests-takes e = let z : _≡_ {A = ℕ} 0 1 = cc in omega arith
+  waits-not-takes : {k : ℕ} {ps : List Item} {σ′ : State} → itWaits ≡ takes k ps σ′ → ⊥
+  waits-not-takes e = let z : _≡_ {A = ℕ} 0 1 = cc in omega arith
 
   -- what the function gives is what a rule does
   pub effect-rule : (j : Item) {k : ℕ} {ps : List Item} {σ′ : State} → effect t σ j ≡ takes k ps σ′ → Rule t k j σ ps σ′
@@ -188,7 +187,7 @@ module _ (t : Table) (σ : State) (m : Ordered t σ) where
 
       go : Takes t σ j ⊎ Waits t σ j → Rule t k j σ ps σ′
       go (inl w) = same (w .number) (w .products) (w .state) (sym (rule-effect t m (w .rule)) ∙ e) (w .rule)
-      go (inr w) = absurd (rests-takes (sym (waits-rests w) ∙ e))
+      go (inr w) = absurd (waits-not-takes (sym (waiting-effect w) ∙ e))
 
 -- at a place of an unclashed run
 module _ (t : Table) (r : Run) (s : Sound t r) (free : r .state .clash ≡ none) (i : ℕ) where
@@ -208,7 +207,7 @@ module _ (t : Table) (r : Run) (s : Sound t r) (free : r .state .clash ≡ none)
 
   performed-done : (j : Item) → getElem? (r .pending) i ≡ some j → (k : ℕ) (r′ : Run) (w : Effect) → effect t (r .state) j ≡ w
       → performed r left w ≡ done k r′ → Carried t r i k r′ × (length (r′ .pending) ≤ room)
-  performed-done j e k r′ rests d h = absurd (let z : _≡_ {A = ℕ} 0 1 = cc in omega arith)
+  performed-done j e k r′ itWaits d h = absurd (let z : _≡_ {A = ℕ} 0 1 = cc in omega arith)
   performed-done j e k r′ (takes n ps σ) d h =
       let f = fitted (leb (length (left ++ ps)) room) n k (after r left ps σ) r′ h in
       let rule : Rule t k j (r .state) ps σ = effect-rule t (r .state) ordered j (d ∙ ap (λ (x : ℕ). takes x ps σ) (f .1)) in (
@@ -266,7 +265,7 @@ module _ (t : Table) (r : Run) (s : Sound t r) (free : r .state .clash ≡ none)
           ⊎-elim (λ (w : Takes t (r .state) (p .0)).
           absurd (f (w .number) (after r (without (r .pending) i) (w .products) (w .state))
           (record { item = p .0; place = p .1; products = w .products; state = w .state; rule = w .rule; run = refl })))
-          (λ (w : Waits t (r .state) (p .0)). step-at (p .0) (p .1) ∙ ap (performed r left) (waits-rests t (r .state) ordered w))
+          (λ (w : Waits t (r .state) (p .0)). step-at (p .0) (p .1) ∙ ap (performed r left) (waiting-effect t (r .state) ordered w))
           (takes-or-waits t (r .state) ordered (p .0))
 
   -- 18 is given exactly when a rule applies and would leave too many.
@@ -283,7 +282,7 @@ module _ (t : Table) (r : Run) (s : Sound t r) (free : r .state .clash ≡ none)
 
       over : (j : Item) → getElem? (r .pending) i ≡ some j → (w : Effect) → effect t (r .state) j ≡ w → performed r left w ≡ refused noRoom
           → (k : ℕ) × (r′ : Run) × Carried t r i k r′ × (room < length (r′ .pending))
-      over j e rests d h = absurd (let z : _≡_ {A = ℕ} 14 18 = cc in omega arith)
+      over j e itWaits d h = absurd (let z : _≡_ {A = ℕ} 14 18 = cc in omega arith)
       over j e (takes n ps σ) d h = (
         n,
         after r (without (r .pending) i) ps σ,

@@ -32,11 +32,13 @@ newsOf x (statement d a b) = 0
 newsOf x (ask d y u) = 0
 newsOf x (news d y u) = pick (eqb y x) 1 0
 
+-- 1 for a mark that is an entry
 abbrev pub holds : Mark → ℕ
 holds nothing = 0
 holds initiated = 0
 holds (entry v) = 1
 
+-- 1 for an owner mark that is set
 abbrev pub told : Option ℕ → ℕ
 told none = 0
 told (some v) = 1

@@ -14,10 +14,12 @@ pub data End : Type 0 where
   atOpen : ℕ → End
   atRecord : Record → End
 
+-- an unknown a, by its owner mark
 abbrev pub byOwner : Option ℕ → ℕ → (ℕ → End) → End
 byOwner none a f = atOpen a
 byOwner (some v) a f = f v
 
+-- an entry a, by whether it is an unknown
 abbrev pub byEntry : Bool → Table → Option ℕ → ℕ → (ℕ → End) → End
 byEntry true t o a f = byOwner o a f
 byEntry false t o a f = atRecord (recordAt t a)
@@ -47,6 +49,7 @@ agree e (suc d) x y = sameEnds (λ p q. agree e d p q) (e x) (e y)
 abbrev pub isMet : (ℕ → ℕ → Bool) → ℕ → ℕ → Bool
 isMet m x y = m (max x y) (min x y)
 
+-- the table with the pair x, y met
 abbrev pub meeting : (ℕ → ℕ → Bool) → ℕ → ℕ → ℕ → ℕ → Bool
 meeting m x y = upd m (max x y) (upd (m (max x y)) (min x y) true)
 

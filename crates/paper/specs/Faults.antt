@@ -1,4 +1,5 @@
--- "the first fault in reading order, with the position where the faulty number starts (11: the first byte left over; ..)"
+-- A file's first fault as a relation: "the first fault in reading order, with the position where the faulty number starts
+-- (11: the first byte left over; otherwise 0)".
 use mathlib.Core.Path.{_≡_}
 use mathlib.Core.Logic.{_⊎_}
 use mathlib.Core.List.{List}

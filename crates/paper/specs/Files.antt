@@ -3,10 +3,10 @@ use mathlib.Core.Bool.{Bool, true, false, _&&_}
 use mathlib.Core.List.{List, [], _∷_, _++_}
 use Prim.Native.Nat.{ℕ, zero, suc, _+_, _-_}
 use lib.Dec.{ltb}
-use lib.ListN.{length, take, drop}
+use lib.ListN.{length, take, drop, replicate}
 use Rattle.base.specs.Choice.{pick}
 use Rattle.base.specs.Lists.{All}
-use Rattle.paper.specs.Sizes.{mostCabinets, mostUnknowns, mostRecords, mostStatements, mostParts, numberLimit}
+use Rattle.paper.specs.Sizes.{mostCabinets, mostUnknowns, mostRecords, mostStatements, mostParts, numberLimit, longestFile}
 use Rattle.paper.specs.Refusals.{badNumber, badCabinets, badUnknowns, badRecords, tooManyParts, partNotUnknown, tooManyStatements, noSuchCabinet, noSuchEntry, bytesLeft}
 use Rattle.paper.specs.Numbers.{rangedAt, numberBytes}
 use Rattle.paper.specs.Tables.{Record, Table, TableOk, entries}
@@ -32,6 +32,7 @@ module _ {A B : Type 0} where
   _>>=_ (end a) f = f a
   _>>=_ (next low below k g) f = next low below k (λ n. g n >>= f)
 
+-- a number in a range, and nothing more
 abbrev pub number : ℕ → ℕ → ℕ → Form ℕ
 number low below k = next low below k end
 
@@ -69,6 +70,7 @@ statementForm t = do
   b ← number 0 (entries t) noSuchEntry
   end (record { cabinet = c; left = a; right = b })
 
+-- "Statements E: 0 to 64."
 abbrev pub countForm : Form ℕ
 countForm = number 0 (suc mostStatements) tooManyStatements
 
@@ -86,6 +88,7 @@ pub data Read (A : Type 0) : Type 0 where
   fault : ℕ → ℕ → Read A
 
 module _ {A : Type 0} where
+  -- what follows a number that was read
   abbrev pub onward : Num → (ℕ → ℕ → Read A) → Read A
   onward (Got n at) f = f n at
   onward (Refused k p) f = fault k p
@@ -105,35 +108,45 @@ unfoldable pub readFile : List ℕ → Read File
 unfolding fileForm rangedAt
 readFile s = ended s (reading fileForm s 0)
 
--- writing
+-- writing: each element's bytes in turn
 module _ {A : Type 0} where
   abbrev pub each : (A → List ℕ) → List A → List ℕ
   each w [] = []
   each w (a ∷ l) = w a ++ each w l
 
+-- "symbol, part count, parts"
 unfoldable pub recordBytes : Record → List ℕ
 unfolding numberBytes
 recordBytes q = numberBytes (q .symbol) ++ (numberBytes (length (q .parts)) ++ each numberBytes (q .parts))
 
+-- "cabinet, left, right"
 unfoldable pub statementBytes : Statement → List ℕ
 unfolding numberBytes
 statementBytes q = numberBytes (q .cabinet) ++ (numberBytes (q .left) ++ numberBytes (q .right))
 
+-- "S, V, R; for each record .."
 unfoldable pub tableBytes : Table → List ℕ
 unfolding recordBytes
 tableBytes t =
     numberBytes (t .cabinets)
     ++ (numberBytes (t .unknowns) ++ (numberBytes (length (t .records)) ++ each recordBytes (t .records)))
 
+-- a file's bytes: the table, E, the statements
 unfoldable pub fileBytes : File → List ℕ
 unfolding tableBytes statementBytes
 fileBytes f = tableBytes (f .table) ++ (numberBytes (length (f .statements)) ++ each statementBytes (f .statements))
+
+-- The writer "needs exactly 836 bytes: the file, then zeros".
+unfoldable pub paddedFile : File → List ℕ
+unfolding fileBytes
+paddedFile f = fileBytes f ++ replicate (longestFile - length (fileBytes f)) 0
 
 -- a part of the file: where it starts, and its length
 pub record Span : Type 0 where
   pub start : ℕ
   pub size : ℕ
 
+-- an empty part
 abbrev pub emptySpan : Span
 emptySpan = record { start = 0; size = 0 }
 
@@ -145,14 +158,17 @@ beforeStatement n = do
   qs ← times n (statementForm t)
   end t
 
+-- the part from where a statement starts to where it ends
 abbrev pub spanFrom : ℕ → Read Statement → Span
 spanFrom at (got q to) = record { start = at; size = to - at }
 spanFrom at (fault k p) = emptySpan
 
+-- the statement that stands after a table and the statements before it
 abbrev pub spanAt : List ℕ → Read Table → Span
 spanAt s (got t at) = spanFrom at (reading (statementForm t) s at)
 spanAt s (fault k p) = emptySpan
 
+-- statement n of a file, by what reading the file gives
 abbrev pub spanIn : List ℕ → ℕ → Read File → Span
 spanIn s n (got f at) = pick (ltb n (length (f .statements))) (spanAt s (reading (beforeStatement n) s 0)) emptySpan
 spanIn s n (fault k p) = emptySpan
@@ -163,6 +179,7 @@ unfoldable pub statementSpan : List ℕ → ℕ → Span
 unfolding readFile
 statementSpan s n = spanIn s n (readFile s)
 
+-- the bytes of that part
 unfoldable pub statementPart : List ℕ → ℕ → List ℕ
 unfolding statementSpan
 statementPart s n = take (statementSpan s n .size) (drop (statementSpan s n .start) s)

@@ -13,7 +13,7 @@ pub mod Replies
 pub mod Alike
 pub mod Ends
 pub mod Maps
-pub mod Sets
+pub mod SameStatements
 pub mod Counts
 pub mod Programs
 pub mod Vectors

@@ -20,11 +20,13 @@ pub record Row : Type 0 where
   pub lowest : ℕ
   pub look : Look
 
--- from the statements
+-- from the statements: m is the lowest unknown that is the same item as x. No bound is asked: x is its own same item, so m is
+-- an unknown.
 pub record IsLowest (t : Table) (qs : List Statement) (x m : ℕ) : Type 0 where
   pub same : SameItem t qs x m
   pub least : (y : ℕ) → y < m → SameItem t qs x y → ⊥
 
+-- a record alike to x: "symbol in four bytes; part count; for each part its lowest same item"
 pub record IsRecordLook (t : Table) (qs : List Statement) (x symbol : ℕ) (lows : List ℕ) : Type 0 where
   pub one : ℕ
   pub one-record : isRecord t one ≡ true
@@ -32,10 +34,12 @@ pub record IsRecordLook (t : Table) (qs : List Statement) (x symbol : ℕ) (lows
   pub symbols : recordAt t one .symbol ≡ symbol
   pub parts : AllZip (IsLowest t qs) (recordAt t one .parts) lows
 
+-- the look of x: open where no record is alike to it
 abbrev pub IsLook : Table → List Statement → ℕ → Look → Type 0
 IsLook t qs x openLook = (a : ℕ) → isRecord t a ≡ true → Alike t qs x a → ⊥
 IsLook t qs x (recordLook s ms) = IsRecordLook t qs x s ms
 
+-- the row of x
 pub record IsRow (t : Table) (qs : List Statement) (x : ℕ) (w : Row) : Type 0 where
   pub lowest : IsLowest t qs x (w .lowest)
   pub look : IsLook t qs x (w .look)
@@ -44,10 +48,12 @@ pub record IsRow (t : Table) (qs : List Statement) (x : ℕ) (w : Row) : Type 0 
 unfoldable pub lowestOf : (ℕ → End) → ℕ → ℕ → ℕ
 lowestOf e v x = firstOf (λ y. agree e v x y) x 0
 
+-- the look of an end
 abbrev pub lookOf : (ℕ → End) → ℕ → End → Look
 lookOf e v (atOpen z) = openLook
 lookOf e v (atRecord q) = recordLook (q .symbol) (map (lowestOf e v) (q .parts))
 
+-- the row of x over ends, at depth v
 unfoldable pub rowOf : (ℕ → End) → ℕ → ℕ → Row
 unfolding lowestOf
 rowOf e v x = record { lowest = lowestOf e v x; look = lookOf e v (e x) }

@@ -20,8 +20,8 @@ abbrev pub above : ℕ → Num → Num
 above d (Got n next) = Got (d + 128 * n) next
 above d (Refused k p) = Refused k p
 
--- at most `left` groups at `at` of a number that starts at `from`. "The top bit says that another follows. It must be in
--- shortest form": the ending group is at least `least`. The last group that may come is at most `top`.
+-- a number's groups, at most so many, from `at` on; the number starts at `from`. Of each, "the top bit says that another
+-- follows". "It must be in shortest form": the ending group is at least `least`. The last that may come is at most `top`.
 unfoldable pub groupsFrom : ℕ → ℕ → ℕ → List ℕ → ℕ → ℕ → Num
 groupsFrom zero top least s from at = Refused badNumber from
 groupsFrom (suc k) top least s from at =
@@ -36,11 +36,12 @@ unfoldable pub numberAt : List ℕ → ℕ → Num
 unfolding groupsFrom
 numberAt s at = groupsFrom mostGroups topGroup 0 s at at
 
+-- a number read at `at`: refusal k there unless it is at least `low` and below `below`
 abbrev pub within : ℕ → ℕ → ℕ → ℕ → Num → Num
 within low below k at (Got n next) = pick (leb low n && ltb n below) (Got n next) (Refused k at)
 within low below k at (Refused j p) = Refused j p
 
--- "Each number's range is tested as soon as it is read": refusal k unless it is at least `low` and below `below`
+-- "Each number's range is tested as soon as it is read."
 unfoldable pub rangedAt : ℕ → ℕ → ℕ → List ℕ → ℕ → Num
 unfolding numberAt
 rangedAt low below k s at = within low below k at (numberAt s at)
@@ -51,5 +52,6 @@ groupsOf zero n = []
 groupsOf (suc zero) n = n ∷ []
 groupsOf (suc (suc k)) n = pick (ltb n 128) (n ∷ []) ((128 + n % 128) ∷ groupsOf (suc k) (n / 128))
 
+-- a number's bytes, in shortest form
 unfoldable pub numberBytes : ℕ → List ℕ
 numberBytes n = groupsOf mostGroups n

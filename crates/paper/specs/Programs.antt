@@ -24,6 +24,7 @@ nextState x = (1664525 * x + 1013904223) % 4294967296
 unfoldable pub drawnPlace : ℕ → ℕ → ℕ
 drawnPlace x n = x / 65536 % n
 
+-- the item at a place does not wait
 abbrev pub isReady : Table → Run → ℕ → Bool
 isReady t r i = not (waitsAt t r i)
 
@@ -36,30 +37,47 @@ readyPlace t r i =
     let ahead = firstOf (isReady t r) (n - i) i in
     elim (ltb ahead n) [ true ↦ ahead | false ↦ firstOf (isReady t r) n 0 ]
 
+-- the place that the program takes, x being drawn
 abbrev pub chosen : Table → Run → ℕ → ℕ
 chosen t r x = readyPlace t r (drawnPlace x (length (r .pending)))
 
--- at most k drawn steps from state x on, until the run has clashed or nothing is pending
-abbrev pub drawn : Table → ℕ → ℕ → Run → Run
-drawn t zero x r = r
+-- the places that the program takes, and the run after them
+pub record Drawn : Type 0 where
+  pub places : List ℕ
+  pub run : Run
+
+-- no place more
+abbrev pub noMore : Run → Drawn
+noMore r = record { places = []; run = r }
+
+-- place i, and then what follows from the run after it
+abbrev pub takenFirst : Table → Run → ℕ → (Run → Drawn) → Drawn
+takenFirst t r i f =
+    elim (step t r i) [ refused k ↦ noMore r | done k r′ ↦ record { places = i ∷ f r′ .places; run = f r′ .run } ]
+
+-- at most k drawn steps from state x on, until the run has clashed or nothing is pending; x advances before each
+abbrev pub drawn : Table → ℕ → ℕ → Run → Drawn
+drawn t zero x r = noMore r
 drawn t (suc k) x r =
     elim (r .state .clash) [
-      | some c ↦ r
+      | some c ↦ noMore r
       | none ↦ (elim (length (r .pending)) [
-        | zero ↦ r
-        | suc n ↦ (elim (step t r (chosen t r (nextState x))) [
-          | refused m ↦ r
-          | done m r′ ↦ drawn t k (nextState x) r′
-        ])
+        | zero ↦ noMore r
+        | suc n ↦ takenFirst t r (chosen t r (nextState x)) (λ r′. drawn t k (nextState x) r′)
       ])
     ]
 
--- the run that the program makes of a file
-unfoldable pub drawnRun : File → Run
+-- what the program draws of a file; the step count is enough to come to the run's end (proofs: `DrawnRun`)
+unfoldable pub drawnFile : File → Drawn
 unfolding nextState drawnPlace readyPlace step initial
-drawnRun f =
+drawnFile f =
     drawn (f .table) (mostSteps (f .table .cabinets) (f .table .unknowns) (length (f .statements))) firstState
     (initial (f .statements))
+
+-- the run that the program makes of a file
+unfoldable pub drawnRun : File → Run
+unfolding drawnFile
+drawnRun f = drawnFile f .run
 
 -- a number in decimal digits, at most k of them
 abbrev pub digits : ℕ → ℕ → List ℕ
@@ -70,6 +88,7 @@ digits (suc k) n = elim (ltb n 10) [ true ↦ (48 + n) ∷ [] | false ↦ digits
 unfoldable pub decimal : ℕ → List ℕ
 decimal n = digits 20 n
 
+-- "a newline ending each line"
 abbrev pub newline : List ℕ
 newline = 10 ∷ []
 
@@ -77,6 +96,7 @@ newline = 10 ∷ []
 abbrev pub spaced : ℕ → List ℕ
 spaced n = 32 ∷ decimal n
 
+-- each number after a space
 abbrev pub spacedAll : List ℕ → List ℕ
 spacedAll [] = []
 spacedAll (n ∷ ns) = spaced n ++ spacedAll ns
@@ -110,13 +130,16 @@ unfoldable pub printedRefusal : ℕ → ℕ → List ℕ
 unfolding decimal
 printedRefusal k p = 114 ∷ 101 ∷ 102 ∷ 117 ∷ 115 ∷ 101 ∷ 100 ∷ (spaced k ++ (32 ∷ 97 ∷ 116 ∷ (spaced p ++ newline)))
 
+-- "`clash`", or the map
 abbrev pub printedRun : Table → Run → Option ℕ → List ℕ
 printedRun t r (some c) = printedClash
 printedRun t r none = printedMap t r
 
+-- what is printed of a file's run
 abbrev pub printedFile : File → Run → List ℕ
 printedFile f r = printedRun (f .table) r (r .state .clash)
 
+-- what is printed by what reading the file gives
 abbrev pub printedRead : Read File → List ℕ
 printedRead (fault k p) = printedRefusal k p
 printedRead (got f at) = printedFile f (drawnRun f)

@@ -1,5 +1,5 @@
--- What each call replies, and in which order it refuses. "A refused call .. gives the number, all else in its reply being
--- 0, save a load's position and a list's finished steps."
+-- What each call replies, and in which order it refuses. "A refused call leaves every lent byte and gives the number, all else
+-- in its reply being 0, save a load's position and a list's finished steps (below)."
 use mathlib.Core.Path.{_≡_}
 use mathlib.Core.Bool.{Bool, true, false}
 use mathlib.Core.List.{List, [], _∷_}
@@ -27,6 +27,7 @@ abbrev pub readReply : Read File → Reply
 readReply (got f at) = reply 0 0
 readReply (fault k p) = reply k p
 
+-- a load, by whether each lent buffer is as long as it must be: 12 first
 abbrev pub loadReply : Bool → Read File → Reply
 loadReply long g = pick long (readReply g) (reply wrongLength 0)
 
@@ -45,6 +46,7 @@ mapNumber (some c) l = hasClashed
 mapNumber none (j ∷ l) = itemsPending
 mapNumber none [] = 0
 
+-- a map's number; nothing beside it
 abbrev pub mapReply : Run → Reply
 mapReply r = reply (mapNumber (r .state .clash) (r .pending)) 0
 

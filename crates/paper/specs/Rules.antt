@@ -1,7 +1,7 @@
--- The ten rules as a relation, in the shape of source document 000, section 5.4: an item is replaced by its products,
--- while a state becomes another. Document 01's departures: `less` is that of section 8.1.1.3; MEM and ADD are source
--- document 001's; an initiated mark stands in place of 001's pending equations and Resume; Interchange has no store
--- condition; a binding arrives at once.
+-- The ten rules as a relation, as source document 000 has them in section 5.4: an item is replaced by its products, while a
+-- state becomes another. Against source document 001, an initiated mark stands in place of pending equations and Resume, and
+-- Interchange has no store condition. MEM and ADD are 001's; `less` is that of section 8.1.1.3 of 000. One departure: a
+-- binding may arrive at a cabinet at once.
 use mathlib.Core.Path.{_≡_}
 use mathlib.Core.Logic.{_⊎_}
 use mathlib.Core.Bool.{Bool, true, false}
@@ -18,7 +18,7 @@ use Rattle.paper.specs.declared.Item.the-variants.{Statement as statemen
 
 -- a state with one thing changed
 module _ (σ : State) where
-  -- false at cabinet c
+  -- clashed at cabinet c
   abbrev pub withClash : ℕ → State
   withClash c = record { clash = some c; owner = σ .owner; store = σ .store; memo = σ .memo }
 
@@ -41,11 +41,11 @@ module _ (σ : State) where
         memo = upd (σ .memo) c (upd (σ .memo c) x (upd (σ .memo c x) y true));
       }
 
--- "MEM(x = u, M) = true if x = u is in M or u = x is in M"
+-- MEM of 001: x = u is in the cabinet's memo, or u = x is
 abbrev pub Mem : State → ℕ → ℕ → ℕ → Type 0
 Mem σ c x u = (σ .memo c x u ≡ true) ⊎ (σ .memo c u x ≡ true)
 
--- "ADD(x = y, M) = M with x = y; ADD(x = t, M) = M" for a record t
+-- ADD of 001: x = u joins the cabinet's memo if u is an unknown; nothing does if u is a record
 abbrev pub add : Table → State → ℕ → ℕ → ℕ → State
 add t σ c x u = pick (isUnknown t u) (withPair σ c x u) σ
 
@@ -90,9 +90,13 @@ pub data Rule (t : Table) : ℕ → Item → State → List Item → State → T
   -- "news": "store mark becomes u"
   arrive : {c x u : ℕ} {σ : State} → Rule t 10 (news c x u) σ [] (withMark σ c x (entry u))
 
+-- "With mark 254 a statement x = u, u less, waits."
+pub data Waits (t : Table) (σ : State) : Item → Type 0 where
+  waiting : {c x u : ℕ} → less t u x ≡ true → σ .store c x ≡ initiated → Waits t σ (statement c x u)
+
 -- the run after a step: items left, products, state
 abbrev pub after : Run → List Item → List Item → State → Run
-after r l ps σ = record { stated = r .stated; state = σ; pending = l ++ ps }
+after r l ps σ = record { statements = r .statements; state = σ; pending = l ++ ps }
 
 -- Rule k is carried out at place i. "Its item goes, later ones move up, and products are appended in the order given."
 pub record Carried (t : Table) (r : Run) (i k : ℕ) (r′ : Run) : Type 0 where

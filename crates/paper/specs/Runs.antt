@@ -30,12 +30,13 @@ pub record State : Type 0 where
   pub store : ℕ → ℕ → Mark
   pub memo : ℕ → ℕ → ℕ → Bool
 
--- with E and the pending items
+-- with E, the number of statements, and the pending items
 pub record Run : Type 0 where
-  pub stated : ℕ
+  pub statements : ℕ
   pub state : State
   pub pending : List Item
 
+-- a statement as a pending item
 abbrev pub asItem : Statement → Item
 asItem q = statement (q .cabinet) (q .left) (q .right)
 
@@ -44,7 +45,7 @@ asItem q = statement (q .cabinet) (q .left) (q .right)
 unfoldable pub initial : List Statement → Run
 initial qs =
     record {
-      stated = length qs;
+      statements = length qs;
       state = record { clash = none; owner = λ x. none; store = λ c x. nothing; memo = λ c x y. false };
       pending = map asItem qs;
     }
@@ -65,6 +66,7 @@ abbrev pub OwnerOk : Table → ℕ → Option ℕ → Type 0
 OwnerOk t x none = Unit {0}
 OwnerOk t x (some u) = Lesser t u x
 
+-- a mark for x in cabinet c's store
 abbrev pub MarkOk : Table → ℕ → ℕ → Mark → Type 0
 MarkOk t c x nothing = Unit {0}
 MarkOk t c x initiated = (c < t .cabinets) × (x < t .unknowns)
@@ -80,6 +82,7 @@ abbrev pub ClashOk : Table → Option ℕ → Type 0
 ClashOk t none = Unit {0}
 ClashOk t (some c) = c < t .cabinets
 
+-- the clash, the marks and the memos
 pub record StateOk (t : Table) (σ : State) : Type 0 where
   pub clash : ClashOk t (σ .clash)
   pub owner : (x : ℕ) → OwnerOk t x (σ .owner x)
@@ -89,7 +92,7 @@ pub record StateOk (t : Table) (σ : State) : Type 0 where
 -- "A run is sound when all ranges above hold, .."
 pub record Sound (t : Table) (r : Run) : Type 0 where
   pub table : TableOk t
-  pub stated : r .stated ≤ mostStatements
+  pub statements : r .statements ≤ mostStatements
   pub state : StateOk t (r .state)
   pub items : All (ItemOk t) (r .pending)
   pub fits : length (r .pending) ≤ room

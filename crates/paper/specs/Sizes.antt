@@ -17,7 +17,7 @@ mostStatements = 64
 abbrev pub mostParts : ℕ
 mostParts = 4
 
--- "A number is 1 to 5 groups of seven bits"; "a fifth byte above 15 is refused"
+-- "A number is 1 to 5 groups of seven bits"; "A fifth byte above 15 is refused at once."
 abbrev pub mostGroups : ℕ
 mostGroups = 5
 

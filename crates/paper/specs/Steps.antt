@@ -24,6 +24,7 @@ pub record Local : Type 0 where
   pub pairs : ℕ → ℕ → Bool
   pub clashes : Bool
 
+-- a statement waits, or acts
 pub data Act : Type 0 where
   waits : Act
   acts : Local → Act
@@ -56,6 +57,7 @@ module _ (t : Table) (marks : ℕ → Mark) (pairs : ℕ → ℕ → Bool) (c : 
         clashes = false;
       }))
 
+  -- two records: same symbol and count, or not
   abbrev pub byRecords : Record → Record → Act
   byRecords p q =
       pick (sameHead p q) (plain 6 (partStatements c (p .parts) (q .parts)))
@@ -72,6 +74,7 @@ module _ (t : Table) (marks : ℕ → Mark) (pairs : ℕ → ℕ → Bool) (c : 
 pub record Answer : Type 0 where
   pub rule : ℕ
   pub owner : Option ℕ
+  -- as it was: neither rule changes it
   pub mark : Mark
   pub products : List Item
 
@@ -82,11 +85,12 @@ answer t x u (some v) m = record { rule = 9; owner = some v; mark = m; products 
 
 -- a rule's number, the products and the state after; or none, where the item waits
 pub data Effect : Type 0 where
-  rests : Effect
+  itWaits : Effect
   takes : ℕ → List Item → State → Effect
 
+-- a statement's effect on the state: at its cabinet c alone
 abbrev pub local : State → ℕ → Act → Effect
-local σ c waits = rests
+local σ c waits = itWaits
 local σ c (acts l) =
     takes (l .rule) (l .products)
     (record {
@@ -96,9 +100,11 @@ local σ c (acts l) =
       memo = upd (σ .memo) c (l .pairs);
     })
 
+-- an ask's effect on the state: on the owner mark of x
 abbrev pub answered : State → ℕ → ℕ → Answer → Effect
 answered σ c x w = takes (w .rule) (w .products) (withMark (withOwner σ x (w .owner)) c x (w .mark))
 
+-- an item's effect on the state
 unfoldable pub effect : Table → State → Item → Effect
 unfolding act answer
 effect t σ (statement c a b) = local σ c (act t (σ .store c) (σ .memo c) c a b)
@@ -112,7 +118,7 @@ pub data Outcome : Type 0 where
 
 -- 14, 18
 abbrev pub performed : Run → List Item → Effect → Outcome
-performed r l rests = refused stillWaits
+performed r l itWaits = refused stillWaits
 performed r l (takes k ps σ) = pick (leb (length (l ++ ps)) room) (done k (after r l ps σ)) (refused noRoom)
 
 -- 13
@@ -130,23 +136,26 @@ unfoldable pub step : Table → Run → ℕ → Outcome
 unfolding effect
 step t r i = running t r i (r .state .clash)
 
--- whether the item at a place waits
-abbrev pub isRest : Effect → Bool
-isRest rests = true
-isRest (takes k ps σ) = false
+-- whether it waits
+abbrev pub isWaiting : Effect → Bool
+isWaiting itWaits = true
+isWaiting (takes k ps σ) = false
 
+-- whether an item, if there is one, waits
 abbrev pub itemWaits : Table → State → Option Item → Bool
 itemWaits t σ none = false
-itemWaits t σ (some j) = isRest (effect t σ j)
+itemWaits t σ (some j) = isWaiting (effect t σ j)
 
+-- whether the item at place i waits
 unfoldable pub waitsAt : Table → Run → ℕ → Bool
 unfolding effect
 waitsAt t r i = itemWaits t (r .state) (getElem? (r .pending) i)
 
--- A list of places "stops at the first refused place and gives that number and how many were done. Those done stay done."
+-- "it stops at the first refused place and gives that number and how many were done. Those done stay done."
 pub data Listed : Type 0 where
   listed : ℕ → ℕ → Run → Listed
 
+-- "A list of places is carried out": n were done before; the call starts at 0. "An empty list gives 0."
 unfoldable pub steps : Table → Run → ℕ → List ℕ → Listed
 unfolding step
 steps t r n [] = listed 0 n r

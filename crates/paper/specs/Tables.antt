@@ -23,15 +23,18 @@ pub record Table : Type 0 where
 abbrev pub entries : Table → ℕ
 entries t = t .unknowns + length (t .records)
 
+-- asked of entries only, and so is `isRecord`
 abbrev pub isUnknown : Table → ℕ → Bool
 isUnknown t a = ltb a (t .unknowns)
 
 abbrev pub isRecord : Table → ℕ → Bool
 isRecord t a = leb (t .unknowns) a
 
+-- what stands at no place of the records
 abbrev pub noRecord : Record
 noRecord = record { symbol = 0; parts = [] }
 
+-- asked of records only
 abbrev pub recordAt : Table → ℕ → Record
 recordAt t a = getD (t .records) (a - t .unknowns) noRecord
 
@@ -51,7 +54,7 @@ pub record RecordOk (v : ℕ) (q : Record) : Type 0 where
 
 -- "Cabinets S: 1 to 8. V: 0 to 32. R: 0 to 64."
 pub record TableOk (t : Table) : Type 0 where
-  pub some : 1 ≤ t .cabinets
+  pub one : 1 ≤ t .cabinets
   pub cabinets : t .cabinets ≤ mostCabinets
   pub unknowns : t .unknowns ≤ mostUnknowns
   pub count : length (t .records) ≤ mostRecords

@@ -19,7 +19,7 @@ use Rattle.paper.specs.Runs.{State, Run, ItemOk, Sound}
 use Rattle.paper.specs.Rules.{Rule, after}
 use Rattle.paper.specs.Steps.{effect, Effect, takes, Outcome, refused, done, performed, step}
 use Rattle.paper.specs.declared.Item.{Item}
-use Rattle.paper.proofs.StepIsRule.{Ordered, rule-effect, waits-rests, step-at}
+use Rattle.paper.proofs.StepIsRule.{Ordered, rule-effect, waiting-effect, step-at}
 use Rattle.paper.proofs.Soundness.{soundness-kept, item-ok}
 use Rattle.layout.specs.Offsets.{clashAt, clashCabinetAt, runBytes}
 use Rattle.layout.specs.Fields.{byteAt, countOf, itemAt, itemsFrom, clashOf, tableOf, stateOf, runOf}
@@ -125,7 +125,7 @@ module _ (d : List ℕ) (r : Ready d) where
   performed-same : (i : ℕ) → i < countOf d → (p : Plan) → Planned d (itemAt d i) p
       → outcomeOf (performedBytes d i p) ≡ performed q (without (q .pending) i) (effect t (stateOf d) (itemAt d i))
   performed-same i h wait (waits w) =
-      ap (performed q (without (q .pending) i)) (sym (waits-rests t (stateOf d) ordered-state w))
+      ap (performed q (without (q .pending) i)) (sym (waiting-effect t (stateOf d) ordered-state w))
   performed-same i h (plan k ps ch) (goes rule ok) =
       go (leb (countOf d - 1 + length ps) room) refl
       ∙ ap (performed q (without (q .pending) i)) (sym (rule-effect t ordered-state rule))

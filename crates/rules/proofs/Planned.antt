@@ -19,11 +19,11 @@ use Rattle.paper.specs.Sizes.{mostCabinets, mostUnknowns, mostRecords, room}
 use Rattle.paper.specs.Tables.{Record, Table, entries, isUnknown, isRecord, noRecord, recordAt, less, sameHead}
 use Rattle.paper.specs.Runs.{Mark, nothing, initiated, entry, State, Run, ItemOk, StateOk, Sound}
 use Rattle.paper.specs.Rules as rules
-use Rattle.paper.specs.Rules.{Rule, interchange, memo, dereference, identify, conflict, decompose, initiate, win, lose, arrive, Mem, add, newsTo, partStatements}
+use Rattle.paper.specs.Rules.{Waits, waiting, Rule, interchange, memo, dereference, identify, conflict, decompose, initiate, win, lose, arrive, Mem, add, newsTo, partStatements}
 use Rattle.paper.specs.declared.Item.{Item}
 use Rattle.paper.specs.declared.Item.the-variants.{Statement as statement, Ask as ask, News as news}
 use Rattle.paper.proofs.Ranks.{rank, Kind, unknown, recorded, kind, is-unknown, is-record, not-less-rank}
-use Rattle.paper.proofs.StepIsRule.{Waits, waiting, Ordered, mem-greater}
+use Rattle.paper.proofs.StepIsRule.{Ordered, mem-greater}
 use Rattle.paper.proofs.Soundness.{less-unknown}
 use Rattle.layout.specs.Offsets.{cabinetsAt, unknownsAt, recordsAt, ownersAt, runBytes, storeFrom, memoFrom}
 use Rattle.layout.specs.Fields.{byteAt, symbolOf, partCountOf, partOf, recordOf, recordsFrom, ownerMark, storeMark, ownerOf, markOf, pairOf, tableOf, stateOf, runOf}

@@ -139,7 +139,7 @@ module _ (d : List ℕ) (w : AsLoadedBytes d) where
   as-loaded-run =
       λ i.
       record {
-        stated = sym (from-length (statementAt d) (byteAt d statementsAt) 0) i;
+        statements = sym (from-length (statementAt d) (byteAt d statementsAt) 0) i;
         state = record { clash = unclashed i; owner = owners-bare i; store = stores-bare i; memo = memos-bare i };
         pending = items-are i;
       }
@@ -153,7 +153,7 @@ module _ (d : List ℕ) (w : AsLoadedBytes d) where
   as-loaded-ok s =
       record {
         table = s .table;
-        count = omega (arith, from-length (statementAt d) (byteAt d statementsAt) 0, s .stated);
+        count = omega (arith, from-length (statementAt d) (byteAt d statementsAt) 0, s .statements);
         statements = from-all (StatementOk (tableOf d)) (statementAt d) (byteAt d statementsAt) 0 (λ p a b. one p (omega arith));
       }
     where
@@ -239,7 +239,7 @@ module _ (d : List ℕ) (qs : List Statement) (run : runOf d ≡ initial qs) (z 
 
   stated-is : byteAt d statementsAt ≡ length qs
   unfolding runOf initial
-  stated-is = ap (λ (r : Run). r .stated) run
+  stated-is = ap (λ (r : Run). r .statements) run
 
   count-is : countOf d ≡ byteAt d statementsAt
   count-is = sym (from-length (itemAt d) (countOf d) 0) ∙ ap length pending-is ∙ length-map qs asItem ∙ sym stated-is

@@ -17,7 +17,7 @@ use Rattle.base.proofs.Regions.{length-put, put-before, put-in, put-after, lt-o
 use Rattle.paper.specs.Sizes.{mostRecords, mostParts, mostStatements, room, longestFile, numberLimit}
 use Rattle.paper.specs.Tables.{Record, Table, RecordOk, TableOk, entries}
 use Rattle.paper.specs.Runs.{Statement, State, Run, asItem, initial, Sound}
-use Rattle.paper.specs.Files.{File, Read, got, fault, readFile, fileBytes}
+use Rattle.paper.specs.Files.{File, Read, got, fault, readFile, fileBytes, paddedFile}
 use Rattle.paper.specs.Reached.{StatementOk, FileOk}
 use Rattle.paper.specs.declared.Item.{Item}
 use Rattle.paper.specs.declared.Item.the-variants.{Statement as statement, Ask as ask, News as news}
@@ -32,7 +32,7 @@ use Rattle.layout.proofs.Views.{appended-shaped, appended-count, written, writt
 use Rattle.layout.proofs.SoundViews.{Bytes, tested, shaped, view-sound, canonical}
 use Rattle.layout.proofs.SameBytes.{same-view}
 use Rattle.statements.specs.Loads.{loadedBytes}
-use Rattle.statements.specs.Writes.{asLoaded, fileOf, padded, Answer, answer, writtenBytes}
+use Rattle.statements.specs.Writes.{asLoaded, fileOf, Answer, answer, writtenBytes}
 use Rattle.statements.proofs.Loaded.{length-cleared, cleared-low, cleared-marks, cleared-rest, sized, sizes-fit, sized-filling, Filling, one-filled, row, fits, LoadedAs, loaded-as, loaded-bytes-sound, shaped as tabled-shaped, few-items, base, tabled}
 use Rattle.statements.proofs.AsLoaded.{AsLoadedBytes, as-loaded-out, as-loaded-in, as-loaded-run, as-loaded-ok, initial-as-loaded}
 
@@ -69,7 +69,7 @@ module _ (f : File) (ok : FileOk (f .table) (f .statements)) where
       statements = same-statements (fileOf (loadedBytes f) .statements) (f .statements) (pending-of (fileOf (loadedBytes f) .statements) (f .statements) both)
 
   -- A loaded run is sound and is written as its file, then zeros, its reply giving the file's length.
-  pub loaded-written : (m : List ℕ) → length m ≡ longestFile → writtenBytes (loadedBytes f) m ≡ answer 0 (length (fileBytes f)) (padded (fileBytes f))
+  pub loaded-written : (m : List ℕ) → length m ≡ longestFile → writtenBytes (loadedBytes f) m ≡ answer 0 (length (fileBytes f)) (paddedFile f)
   unfolding writtenBytes
   loaded-written m h =
       rw (

@@ -411,9 +411,9 @@ module _ (f : File) (ok : FileOk (f .table) (f .statements)) where
       p = fun-ext λ z. fun-ext λ x. fun-ext λ y. pair z x y (ltb z mostCabinets && (ltb x mostUnknowns && ltb y mostUnknowns)) refl
 
   -- a run with everything but its pending items
-  run-is : runOf tabled ≡ record { stated = length (f .statements); state = initial (f .statements) .state; pending = [] }
+  run-is : runOf tabled ≡ record { statements = length (f .statements); state = initial (f .statements) .state; pending = [] }
   unfolding runOf
-  run-is = λ j. record { stated = size 3 (omega arith) j; state = state-is j; pending = none-yet j }
+  run-is = λ j. record { statements = size 3 (omega arith) j; state = state-is j; pending = none-yet j }
     where
       none-yet : itemsFrom tabled (countOf tabled) 0 ≡ []
       none-yet = ap (λ (n : ℕ). itemsFrom tabled n 0) count-is-zero

@@ -1,15 +1,15 @@
 -- What writing takes from a run's bytes: when a sound run is as loaded, the file that it is, and what the call leaves.
 use mathlib.Core.Bool.{Bool, true, false, _&&_}
-use mathlib.Core.List.{List, [], _∷_, _++_}
+use mathlib.Core.List.{List}
 use Prim.Native.Nat.{ℕ, _+_, _-_}
 use lib.Dec.{eqb}
-use lib.ListN.{length, replicate}
+use lib.ListN.{length}
 use Rattle.base.specs.Choice.{pick, allBelow}
 use Rattle.base.specs.Lists.{listFrom}
 use Rattle.paper.specs.Sizes.{longestFile}
 use Rattle.paper.specs.Refusals.{wrongLength, notSound, notAsLoaded}
 use Rattle.paper.specs.Runs.{Statement}
-use Rattle.paper.specs.Files.{File, Read, got, fault, fileBytes, readFile}
+use Rattle.paper.specs.Files.{File, Read, got, fault, fileBytes, paddedFile, readFile}
 use Rattle.layout.specs.Offsets.{clashAt, statementsAt, ownersAt, memosAt, pendingAt, runBytes, itemFrom}
 use Rattle.layout.specs.Fields.{byteAt, countOf, tableOf}
 use Rattle.layout.specs.Soundness.{soundBytes, zerosAt}
@@ -38,20 +38,16 @@ statementAt d p = record { cabinet = byteAt d (itemFrom p + 1); left = byteAt d 
 unfoldable pub fileOf : List ℕ → File
 fileOf d = record { table = tableOf d; statements = listFrom (statementAt d) (byteAt d statementsAt) 0 }
 
--- "needs exactly 836 bytes: the file, then zeros"
-unfoldable pub padded : List ℕ → List ℕ
-padded s = s ++ replicate (longestFile - length s) 0
-
 -- number (0 for done, else the refusal), position or length, and the bytes of the lent buffer
 pub data Answer : Type 0 where
   answer : ℕ → ℕ → List ℕ → Answer
 
--- "Writing: 12, 17, 19."; "its reply gives the file's length"
+-- "Writing: 12, 17, 19."; "needs exactly 836 bytes: the file, then zeros; its reply gives the file's length"
 unfoldable pub writtenBytes : List ℕ → List ℕ → Answer
 writtenBytes d m =
     pick (eqb (length d) runBytes && eqb (length m) longestFile)
     (pick (soundBytes d)
-    (pick (asLoaded d) (answer 0 (length (fileBytes (fileOf d))) (padded (fileBytes (fileOf d)))) (answer notAsLoaded 0 m))
+    (pick (asLoaded d) (answer 0 (length (fileBytes (fileOf d))) (paddedFile (fileOf d))) (answer notAsLoaded 0 m))
     (answer notSound 0 m))
     (answer wrongLength 0 m)
 
