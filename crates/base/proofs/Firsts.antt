@@ -56,3 +56,12 @@ module _ (f : ℕ → Bool) where
 
       passes : T (f (firstOf f k y))
       passes = at-last (ℕ-discrete (firstOf f k y) (y + k))
+
+-- two tests that give the same find the same
+pub first-same : (f g : ℕ → Bool) (k y : ℕ) → ((z : ℕ) → y ≤ z → z < y + k → f z ≡ g z) → firstOf f k y ≡ firstOf g k y
+first-same f g zero y h = refl
+first-same f g (suc k) y h = go (g y) (h y (omega arith) (omega arith)) refl (first-same f g k (suc y) (λ z a b. h z (omega arith) (omega arith)))
+  where
+    go : (b : Bool) → f y ≡ g y → g y ≡ b → firstOf f k (suc y) ≡ firstOf g k (suc y) → firstOf f (suc k) y ≡ firstOf g (suc k) y
+    go true e d ih = rw (e, d, firstOf)
+    go false e d ih = rw (e, d, firstOf) ih

@@ -100,7 +100,7 @@ module _ (d : List ℕ) (r : Ready d) where
   abbrev q : Run
   q = runOf d
 
-  place-item : (i : ℕ) → i < countOf d → getElem? (q .pending) i ≡ some (itemAt d i)
+  pub place-item : (i : ℕ) → i < countOf d → getElem? (q .pending) i ≡ some (itemAt d i)
   unfolding runOf
   place-item i h = from-place (itemAt d) (countOf d) 0 i h ∙ ap (λ (n : ℕ). some (itemAt d n)) (zero-plus i)
     where
@@ -141,7 +141,7 @@ module _ (d : List ℕ) (r : Ready d) where
           (ap (done k) (left-run d (r .shaped) i h ps ch ok (leb-true (countOf d - 1 + length ps) room e)))
       go false e = rw (same-test, e)
 
-  unclashed-view : (b : Bool) → eqb (byteAt d clashAt) 0 ≡ b → q .state .clash ≡ pick b none (some (byteAt d clashCabinetAt))
+  pub unclashed-view : (b : Bool) → eqb (byteAt d clashAt) 0 ≡ b → q .state .clash ≡ pick b none (some (byteAt d clashCabinetAt))
   unfolding runOf stateOf
   unclashed-view b e = ap (λ (c : Bool). pick c none (some (byteAt d clashCabinetAt))) e
 
