@@ -1,0 +1,146 @@
+-- Bytes reached from a file view as runs reached in the paper, and stay sound; a list of steps is the paper's.
+use mathlib.Core.Path.{_≡_, refl, sym, subst, ap, ap₂, _∙_}
+use mathlib.Core.Logic.{_⊎_, inl, inr, ⊎-elim}
+use mathlib.Core.Bool.{Bool, true, false, _&&_}
+use mathlib.Core.List.{List, [], _∷_}
+use mathlib.Core.Option.{Option, none, some}
+use Prim.Native.Nat.{ℕ, zero, suc, _+_, _-_, _≤_, _<_}
+use native.Mathlib.Numerals.{add-one}
+use native.Mathlib.Omega.{arith}
+use borrow.Author.Tests.{eqb-true, eqb-false, eq-eqb}
+use lib.Dec.{eqb, ltb, leb}
+use lib.ListN.{length, take}
+use Rattle.base.specs.Choice.{pick}
+use Rattle.base.specs.Lists.{All}
+use Rattle.base.proofs.Froms.{from-length}
+use Rattle.paper.specs.Sizes.{room}
+use Rattle.paper.specs.Refusals.{noRoom, stillWaits, noSuchPlace, hasClashed}
+use Rattle.paper.specs.Tables.{Table}
+use Rattle.paper.specs.Runs.{Statement, State, Run, initial, Sound}
+use Rattle.paper.specs.Steps.{Outcome, refused, done, step, Listed, listed, steps}
+use Rattle.paper.specs.Files.{File, Read, got, fault, readFile}
+use Rattle.paper.specs.Reached as paper
+use Rattle.paper.specs.Reached.{FileOk, Reached}
+use Rattle.paper.proofs.Soundness.{loaded-sound}
+use Rattle.paper.proofs.RoundTrip.{read-written}
+use Rattle.layout.specs.Offsets.{clashAt, clashCabinetAt, runBytes}
+use Rattle.layout.specs.Fields.{byteAt, countOf, itemAt, clashOf, tableOf, stateOf, runOf}
+use Rattle.layout.specs.Soundness.{soundBytes}
+use Rattle.layout.proofs.SoundViews.{tested, shaped, view-sound, canonical}
+use Rattle.statements.specs.Loads.{loadedBytes}
+use Rattle.statements.specs.Writes.{Answer, answer, loadedRead, loadBytes}
+use Rattle.statements.proofs.Loaded.{LoadedAs, loaded-as}
+use Rattle.layout.specs.Changes.{removedAt, appendedAll}
+use Rattle.rules.specs.Plans.{Plan, wait, plan, applied, planOf}
+use Rattle.rules.specs.Bytes.{Out, out, performedBytes, takenBytes, stepBytes, onwardBytes, allTaken}
+use Rattle.rules.proofs.Bridge.{Ready, ready-sound, outcomeOf, bridge, Left, bytesOf, taken-left}
+use Rattle.promises.specs.FromFiles.{Bytes, Accepted, FromFile, loaded, stepped, HasClashed, NothingPending, AtEnd}
+
+-- sound bytes are ready for a step
+pub ready-of : (d : List ℕ) → length d ≡ runBytes → soundBytes d ≡ true → Bytes d → Ready d
+ready-of d l s b =
+    record { shaped = shaped d l (tested d s); sound = view-sound d l (tested d s) b; canonical = canonical d l (tested d s) }
+
+-- a step that is accepted has the right length and sound bytes, and is a taken place
+pub record Taken (d : List ℕ) (i k : ℕ) (e : List ℕ) : Type 0 where
+  pub long : length d ≡ runBytes
+  pub sound : soundBytes d ≡ true
+  pub is : takenBytes d i ≡ out 0 k e
+
+pub step-taken : (d : List ℕ) (i k : ℕ) (e : List ℕ) → stepBytes d i ≡ out 0 k e → Taken d i k e
+unfolding stepBytes
+step-taken d i k e h = go (eqb (length d) runBytes) refl (soundBytes d) refl h
+  where
+    go : (a : Bool) → eqb (length d) runBytes ≡ a → (b : Bool) → soundBytes d ≡ b → pick a (pick b (takenBytes d i) (out 17 0 d)) (out 12 0 d) ≡ out 0 k e → Taken d i k e
+    go true x true y z = record { long = eqb-true (length d) runBytes x; sound = y; is = z }
+    go true x false y z = absurd (let w : _≡_ {A = ℕ} 17 0 = cc in omega arith)
+    go false x b y z = absurd (let w : _≡_ {A = ℕ} 12 0 = cc in omega arith)
+
+pub taken-step : (d : List ℕ) → Ready d → (i : ℕ) → stepBytes d i ≡ takenBytes d i
+unfolding stepBytes
+taken-step d r i = rw (eq-eqb (length d) runBytes (r .shaped .long), ready-sound d r)
+
+-- what bytes reached from an accepted file are
+pub record Viewed (f : File) (n : ℕ) (d : List ℕ) : Type 0 where
+  pub ready : Ready d
+  pub table : tableOf d ≡ f .table
+  pub reached : Reached (f .table) (f .statements) n (runOf d)
+
+pub file-ok : (s : List ℕ) (f : File) → Accepted s f → FileOk (f .table) (f .statements)
+file-ok s f a = read-written s (all-bytes s (a .bytes)) f (a .end) (a .read) .ok
+  where
+    all-bytes : (l : List ℕ) → Bytes l → All (λ b. b < 256) l
+    all-bytes [] b = tt
+    all-bytes (x ∷ l) b = (b 0, all-bytes l (λ i. b (suc i)))
+
+loaded-is : (s before d : List ℕ) (f : File) (at : ℕ) → readFile s ≡ got f at → loadBytes s before ≡ answer 0 0 d → d ≡ loadedBytes f
+unfolding loadBytes
+loaded-is s before d f at r h = go (eqb (length before) runBytes) h
+  where
+    go : (a : Bool) → pick a (loadedRead before (readFile s)) (answer 12 0 before) ≡ answer 0 0 d → d ≡ loadedBytes f
+    go true z = let w : answer 0 0 (loadedBytes f) ≡ answer 0 0 d = rw r at z in cc
+    go false z = absurd (let w : _≡_ {A = ℕ} 12 0 = cc in omega arith)
+
+pub viewed : (s : List ℕ) (f : File) → Accepted s f → {n : ℕ} {d : List ℕ} → FromFile s n d → Viewed f n d
+viewed s f a (loaded before {d = d} h) =
+    let ok = file-ok s f a in
+    let w = loaded-as f ok in
+    subst (λ (e : List ℕ). Viewed f 0 e) (sym (loaded-is s before d f (a .end) (a .read) h))
+    (record {
+      ready =
+          record {
+            shaped = w .shape;
+            sound = subst (λ (u : Table). Sound u (runOf (loadedBytes f))) (sym (w .table)) (subst (Sound (f .table)) (sym (w .run)) (loaded-sound (f .table) (f .statements) ok));
+            canonical = w .canonical;
+          };
+      table = w .table;
+      reached = subst (Reached (f .table) (f .statements) 0) (sym (w .run)) paper.loaded;
+    })
+viewed s f a (stepped {d = d} h i k {e = e} z) =
+    let v = viewed s f a h in
+    let t = step-taken d i k e z .is in
+    let l = subst (λ (o : Out). Left d (v .ready) (bytesOf d (v .ready) o)) t (taken-left d (v .ready) i) in
+    let b : step (tableOf d) (runOf d) i ≡ done k (runOf e) = sym (bridge d (v .ready) i) ∙ ap outcomeOf t in
+    record {
+      ready = l .ready;
+      table = l .table ∙ v .table;
+      reached = paper.stepped (v .reached) i k (subst (λ (u : Table). step u (runOf d) i ≡ done k (runOf e)) (v .table) b);
+    }
+
+-- a refused place leaves the bytes
+pub taken-refused : (d : List ℕ) (i m k : ℕ) (e : List ℕ) → takenBytes d i ≡ out (suc m) k e → e ≡ d
+unfolding takenBytes
+taken-refused d i m k e h = go (eqb (byteAt d clashAt) 0) (ltb i (countOf d)) (planOf d (itemAt d i)) h
+  where
+    performed : (p : Plan) → performedBytes d i p ≡ out (suc m) k e → e ≡ d
+    performed wait z = cc
+    performed (plan j ps ch) z = fits (leb (countOf d - 1 + length ps) room) z
+      where
+        fits : (b : Bool) → pick b (out 0 j (appendedAll ps (removedAt i (applied ch d)))) (out noRoom 0 d) ≡ out (suc m) k e → e ≡ d
+        fits true z = absurd (let w : _≡_ {A = ℕ} 0 (suc m) = cc in omega arith)
+        fits false z = cc
+
+    go : (a b : Bool) (p : Plan) → pick a (pick b (performedBytes d i p) (out noSuchPlace 0 d)) (out hasClashed 0 d) ≡ out (suc m) k e → e ≡ d
+    go true true p z = performed p z
+    go true false p z = cc
+    go false b p z = cc
+
+-- a list of places on ready bytes is the paper's list
+abbrev pub listedOf : Out → Listed
+listedOf (out k n d) = listed k n (runOf d)
+
+pub all-taken-same : (is : List ℕ) (n : ℕ) (d : List ℕ) → Ready d → listedOf (allTaken is n d) ≡ steps (tableOf d) (runOf d) n is
+unfolding allTaken steps
+all-taken-same [] n d r = refl
+all-taken-same (i ∷ is) n d r = go (takenBytes d i) refl (taken-left d r i) (λ e h. all-taken-same is (n + 1) e h)
+  where
+    go : (o : Out) → takenBytes d i ≡ o → Left d r (bytesOf d r (takenBytes d i))
+        → ((e : List ℕ) → Ready e → listedOf (allTaken is (n + 1) e) ≡ steps (tableOf e) (runOf e) (n + 1) is)
+        → listedOf (onwardBytes o n (λ m e. allTaken is m e)) ≡ steps (tableOf d) (runOf d) n (i ∷ is)
+    go (out zero k e) z l ih =
+        let l′ : Left d r e = subst (λ (o : Out). Left d r (bytesOf d r o)) z l in
+        let b : step (tableOf d) (runOf d) i ≡ done k (runOf e) = sym (bridge d r i) ∙ ap outcomeOf z in
+        ih e (l′ .ready) ∙ ap₂ (λ (u : Table) (m : ℕ). steps u (runOf e) m is) (l′ .table) (add-one n) ∙ sym (rw b)
+    go (out (suc m) k e) z l ih =
+        let b : step (tableOf d) (runOf d) i ≡ refused (suc m) = sym (bridge d r i) ∙ ap outcomeOf z in
+        ap (λ (u : List ℕ). listed (suc m) n (runOf u)) (taken-refused d i m k e z) ∙ sym (rw b)

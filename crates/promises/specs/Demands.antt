@@ -1,0 +1,111 @@
+-- The three demands, each under its sentence, about the definitions that the public calls' contracts cite: loadBytes,
+-- stepBytes, stepsBytes, mapBytesOf and writtenBytes. proofs/Demands proves them.
+use mathlib.Core.Path.{_≡_}
+use mathlib.Core.Logic.{_⊎_, _↔_}
+use mathlib.Core.Bool.{true, false, _&&_}
+use mathlib.Core.List.{List}
+use Prim.Native.Nat.{ℕ, suc, _≤_}
+use lib.Dec.{eqb}
+use lib.ListN.{length, take}
+use Rattle.paper.specs.Sizes.{longestFile}
+use Rattle.paper.specs.Refusals.{noRoom}
+use Rattle.paper.specs.Tables.{Table}
+use Rattle.paper.specs.Runs.{Statement, Run}
+use Rattle.paper.specs.Rules.{Carried}
+use Rattle.paper.specs.Steps.{step, steps}
+use Rattle.paper.specs.Files.{File, readFile, fileBytes, paddedFile}
+use Rattle.paper.specs.Replies.{Reply, reply, checked, loadReply, stepReply, listReply, mapReply, writeReply}
+use Rattle.paper.specs.Alike.{Clash}
+use Rattle.paper.specs.SameStatements.{SameItems, SameSet}
+use Rattle.paper.specs.Counts.{mostSteps}
+use Rattle.layout.specs.Offsets.{runBytes, mapBytes}
+use Rattle.layout.specs.Fields.{tableOf, runOf}
+use Rattle.layout.specs.Soundness.{soundBytes}
+use Rattle.statements.specs.Loads.{loadedBytes}
+use Rattle.statements.specs.Writes.{Answer, answer, asLoaded, fileOf, writtenBytes, loadBytes}
+use Rattle.rules.specs.Bytes.{Out, out, stepBytes, stepsBytes}
+use Rattle.maps.specs.Bytes.{Mapped, mapped, mapBytesOf}
+use Rattle.promises.specs.FromFiles.{Bytes, Accepted, FromFile, HasClashed, NothingPending, AtEnd, IsMap}
+
+-- the reply of each answer: its number, and its position, rule, steps done or length
+abbrev pub replyOfAnswer : Answer → Reply
+replyOfAnswer (answer k p d) = reply k p
+
+abbrev pub replyOfOut : Out → Reply
+replyOfOut (out k p d) = reply k p
+
+abbrev pub replyOfMap : Mapped → Reply
+replyOfMap (mapped k m) = reply k 0
+
+-- "1. Every file, state, step and buffer gets a fixed reply. A bad one is refused by number in a stated order, and a refused call
+-- changes no lent byte, but for a list's steps before the refused one."
+pub record Demand1 : Type 1 where
+  -- each contract says that reply and bytes are the value of a definition: no second value is
+  pub fixed : {A : Type 0} (value a b : A) → a ≡ value → b ≡ value → a ≡ b
+  -- the stated order is that of the paper's replies
+  pub loading : (s d : List ℕ) → replyOfAnswer (loadBytes s d) ≡ loadReply (eqb (length d) runBytes) (readFile s)
+  pub stepping : (d : List ℕ) → Bytes d → (i : ℕ)
+      → replyOfOut (stepBytes d i) ≡ checked (eqb (length d) runBytes) (soundBytes d) (stepReply (step (tableOf d) (runOf d) i))
+  pub listing : (d : List ℕ) → Bytes d → (is : List ℕ)
+      → replyOfOut (stepsBytes d is) ≡ checked (eqb (length d) runBytes) (soundBytes d) (listReply (steps (tableOf d) (runOf d) 0 is))
+  pub mapping : (d m : List ℕ) → Bytes d
+      → replyOfMap (mapBytesOf d m) ≡ checked (eqb (length d) runBytes && eqb (length m) mapBytes) (soundBytes d) (mapReply (runOf d))
+  pub writing : (d m : List ℕ)
+      → replyOfAnswer (writtenBytes d m)
+      ≡ checked (eqb (length d) runBytes && eqb (length m) longestFile) (soundBytes d) (writeReply (asLoaded d) (length (fileBytes (fileOf d))))
+  -- what a refused call leaves
+  pub load-leaves : (s d e : List ℕ) (k p : ℕ) → loadBytes s d ≡ answer (suc k) p e → e ≡ d
+  pub step-leaves : (d e : List ℕ) (i k p : ℕ) → stepBytes d i ≡ out (suc k) p e → e ≡ d
+  pub list-leaves : (d e is : List ℕ) (k n : ℕ) → stepsBytes d is ≡ out (suc k) n e
+      → (e ≡ d) ⊎ (stepsBytes d (take n is) ≡ out 0 n e)
+  pub map-leaves : (d m e : List ℕ) (k : ℕ) → mapBytesOf d m ≡ mapped (suc k) e → e ≡ m
+  pub write-leaves : (d m e : List ℕ) (k p : ℕ) → writtenBytes d m ≡ answer (suc k) p e → e ≡ m
+
+-- "2. Each step is exactly one rule of the published distributed rational tree unification (Haridi and others). From an accepted
+-- file, a finished map is the one that document 01 derives from the statements alone. Reading and writing a statement file undo
+-- each other."
+pub record Demand2 : Type 0 where
+  pub one-rule : (d : List ℕ) → Bytes d → (i k : ℕ) (e : List ℕ) → stepBytes d i ≡ out 0 k e
+      → Carried (tableOf d) (runOf d) i k (runOf e) × (tableOf e ≡ tableOf d) × (soundBytes e ≡ true)
+  pub finished-map : (s : List ℕ) (f : File) → Accepted s f → (n : ℕ) (d : List ℕ) → FromFile s n d → NothingPending d
+      → (lent m : List ℕ) → length lent ≡ mapBytes → (mapBytesOf d lent ≡ mapped 0 m) ↔ IsMap (f .table) (f .statements) m
+  pub read-then-written : (s : List ℕ) (f : File) → Accepted s f → (lent : List ℕ) → length lent ≡ longestFile
+      → (writtenBytes (loadedBytes f) lent ≡ answer 0 (length s) (paddedFile f)) × (fileBytes f ≡ s)
+  pub written-then-read : (d : List ℕ) → Bytes d → length d ≡ runBytes → soundBytes d ≡ true → asLoaded d ≡ true
+      → (before : List ℕ) → length before ≡ runBytes → loadBytes (fileBytes (fileOf d)) before ≡ answer 0 0 d
+
+-- "3. Take two accepted files with the same numbered items and records, and the same set of statements once cabinet, order,
+-- repeats and left or right are forgotten. Carry each on by any accepted steps until it clashes or nothing is pending."
+pub record TwoRuns (s s′ : List ℕ) (f f′ : File) (d d′ : List ℕ) : Type 0 where
+  pub accepted : Accepted s f
+  pub accepted′ : Accepted s′ f′
+  pub items : SameItems (f .table) (f′ .table)
+  pub statements : SameSet (f .statements) (f′ .statements)
+  pub steps : ℕ
+  pub steps′ : ℕ
+  pub carried : FromFile s steps d
+  pub carried′ : FromFile s′ steps′ d′
+  pub over : AtEnd d
+  pub over′ : AtEnd d′
+
+-- "Both clash, exactly when the statements cannot all hold, or both give the same map, byte for byte."
+pub data BothAlike (f : File) (d d′ : List ℕ) : Type 0 where
+  both-clash : HasClashed d → HasClashed d′ → Clash (f .table) (f .statements) → BothAlike f d d′
+  same-map : (Clash (f .table) (f .statements) → ⊥) → (m : List ℕ)
+      → ((lent : List ℕ) → length lent ≡ mapBytes → mapBytesOf d lent ≡ mapped 0 m)
+      → ((lent : List ℕ) → length lent ≡ mapBytes → mapBytesOf d′ lent ≡ mapped 0 m) → BothAlike f d d′
+
+pub record Demand3 : Type 0 where
+  pub one-result : (s s′ : List ℕ) (f f′ : File) (d d′ : List ℕ) → TwoRuns s s′ f f′ d d′ → BothAlike f d d′
+  -- "No run exceeds document 01's count of steps,"
+  pub step-count : (s : List ℕ) (f : File) → Accepted s f → (n : ℕ) (d : List ℕ) → FromFile s n d
+      → n ≤ mostSteps (f .table .cabinets) (f .table .unknowns) (length (f .statements))
+  -- nor is it ever refused for room
+  pub never-full : (s : List ℕ) (f : File) → Accepted s f → (n : ℕ) (d : List ℕ) → FromFile s n d → (i k : ℕ) (e : List ℕ)
+      → stepBytes d i ≡ out noRoom k e → ⊥
+  -- "and until its end some pending item can be taken."
+  pub some-place : (s : List ℕ) (f : File) → Accepted s f → (n : ℕ) (d : List ℕ) → FromFile s n d
+      → AtEnd d ⊎ ((i : ℕ) × (k : ℕ) × (e : List ℕ) × (stepBytes d i ≡ out 0 k e))
+  -- so that an end is always reachable
+  pub end-reachable : (s : List ℕ) (f : File) → Accepted s f → (n : ℕ) (d : List ℕ) → FromFile s n d
+      → (m : ℕ) × (e : List ℕ) × FromFile s m e × AtEnd e

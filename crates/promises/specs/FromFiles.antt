@@ -1,0 +1,50 @@
+-- A run's bytes reached from a file: what loading leaves, then any accepted steps; how such a run ends; and what bytes are the
+-- map that the statements alone determine.
+use mathlib.Core.Path.{_≡_}
+use mathlib.Core.Logic.{_⊎_}
+use mathlib.Core.List.{List, _++_}
+use mathlib.Core.Option.{some}
+use Prim.Native.Nat.{ℕ, suc, _-_, _*_, _<_}
+use lib.ListN.{length, getElem?, replicate}
+use Rattle.paper.specs.Tables.{Table}
+use Rattle.paper.specs.Runs.{Statement}
+use Rattle.paper.specs.Files.{File, Read, got, readFile, each}
+use Rattle.paper.specs.Maps.{Row, IsRow}
+use Rattle.layout.specs.Offsets.{clashAt, rowBytes, mapBytes}
+use Rattle.layout.specs.Fields.{byteAt, countOf}
+use Rattle.layout.specs.MapRows.{bytesOfRow}
+use Rattle.statements.specs.Writes.{answer, loadBytes}
+use Rattle.rules.specs.Bytes.{out, stepBytes}
+
+-- every element is a byte, as of any lent slice
+abbrev pub Bytes : List ℕ → Type 0
+Bytes d = (i : ℕ) → byteAt d i < 256
+
+-- a file that loading accepts, and what it says
+pub record Accepted (s : List ℕ) (f : File) : Type 0 where
+  pub bytes : Bytes s
+  pub end : ℕ
+  pub read : readFile s ≡ got f end
+
+-- loaded into whatever stood there before, then so many accepted steps at any places
+pub data FromFile (s : List ℕ) : ℕ → List ℕ → Type 0 where
+  loaded : (before : List ℕ) {d : List ℕ} → loadBytes s before ≡ answer 0 0 d → FromFile s 0 d
+  stepped : {n : ℕ} {d : List ℕ} → FromFile s n d → (i k : ℕ) {e : List ℕ} → stepBytes d i ≡ out 0 k e → FromFile s (suc n) e
+
+-- "until it clashes or nothing is pending"
+abbrev pub HasClashed : List ℕ → Type 0
+HasClashed d = byteAt d clashAt ≡ 1
+
+pub record NothingPending (d : List ℕ) : Type 0 where
+  pub running : byteAt d clashAt ≡ 0
+  pub empty : countOf d ≡ 0
+
+abbrev pub AtEnd : List ℕ → Type 0
+AtEnd d = HasClashed d ⊎ NothingPending d
+
+-- the 352 bytes whose rows are those that the statements determine; rows from V on hold 0
+pub record IsMap (t : Table) (qs : List Statement) (m : List ℕ) : Type 0 where
+  pub rows : List Row
+  pub many : length rows ≡ t .unknowns
+  pub are : (x : ℕ) (w : Row) → getElem? rows x ≡ some w → IsRow t qs x w
+  pub bytes : m ≡ each bytesOfRow rows ++ replicate (mapBytes - rowBytes * t .unknowns) 0

@@ -1,0 +1,2 @@
+pub mod FromFiles
+pub mod Demands
