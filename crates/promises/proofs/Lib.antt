@@ -1,1 +1,4 @@
 pub mod Reaching
+pub mod Fixed
+pub mod Derived
+pub mod Alike

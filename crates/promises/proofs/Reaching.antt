@@ -66,12 +66,12 @@ pub record Viewed (f : File) (n : ℕ) (d : List ℕ) : Type 0 where
   pub table : tableOf d ≡ f .table
   pub reached : Reached (f .table) (f .statements) n (runOf d)
 
+pub all-bytes : (l : List ℕ) → Bytes l → All (λ b. b < 256) l
+all-bytes [] b = tt
+all-bytes (x ∷ l) b = (b 0, all-bytes l (λ i. b (suc i)))
+
 pub file-ok : (s : List ℕ) (f : File) → Accepted s f → FileOk (f .table) (f .statements)
 file-ok s f a = read-written s (all-bytes s (a .bytes)) f (a .end) (a .read) .ok
-  where
-    all-bytes : (l : List ℕ) → Bytes l → All (λ b. b < 256) l
-    all-bytes [] b = tt
-    all-bytes (x ∷ l) b = (b 0, all-bytes l (λ i. b (suc i)))
 
 loaded-is : (s before d : List ℕ) (f : File) (at : ℕ) → readFile s ≡ got f at → loadBytes s before ≡ answer 0 0 d → d ≡ loadedBytes f
 unfolding loadBytes
@@ -107,23 +107,23 @@ viewed s f a (stepped {d = d} h i k {e = e} z) =
       reached = paper.stepped (v .reached) i k (subst (λ (u : Table). step u (runOf d) i ≡ done k (runOf e)) (v .table) b);
     }
 
--- a refused place leaves the bytes
-pub taken-refused : (d : List ℕ) (i m k : ℕ) (e : List ℕ) → takenBytes d i ≡ out (suc m) k e → e ≡ d
+-- a refused place names no rule and leaves the bytes
+pub taken-refused : (d : List ℕ) (i m k : ℕ) (e : List ℕ) → takenBytes d i ≡ out (suc m) k e → (k ≡ 0) × (e ≡ d)
 unfolding takenBytes
 taken-refused d i m k e h = go (eqb (byteAt d clashAt) 0) (ltb i (countOf d)) (planOf d (itemAt d i)) h
   where
-    performed : (p : Plan) → performedBytes d i p ≡ out (suc m) k e → e ≡ d
-    performed wait z = cc
+    performed : (p : Plan) → performedBytes d i p ≡ out (suc m) k e → (k ≡ 0) × (e ≡ d)
+    performed wait z = (cc, cc)
     performed (plan j ps ch) z = fits (leb (countOf d - 1 + length ps) room) z
       where
-        fits : (b : Bool) → pick b (out 0 j (appendedAll ps (removedAt i (applied ch d)))) (out noRoom 0 d) ≡ out (suc m) k e → e ≡ d
+        fits : (b : Bool) → pick b (out 0 j (appendedAll ps (removedAt i (applied ch d)))) (out noRoom 0 d) ≡ out (suc m) k e → (k ≡ 0) × (e ≡ d)
         fits true z = absurd (let w : _≡_ {A = ℕ} 0 (suc m) = cc in omega arith)
-        fits false z = cc
+        fits false z = (cc, cc)
 
-    go : (a b : Bool) (p : Plan) → pick a (pick b (performedBytes d i p) (out noSuchPlace 0 d)) (out hasClashed 0 d) ≡ out (suc m) k e → e ≡ d
+    go : (a b : Bool) (p : Plan) → pick a (pick b (performedBytes d i p) (out noSuchPlace 0 d)) (out hasClashed 0 d) ≡ out (suc m) k e → (k ≡ 0) × (e ≡ d)
     go true true p z = performed p z
-    go true false p z = cc
-    go false b p z = cc
+    go true false p z = (cc, cc)
+    go false b p z = (cc, cc)
 
 -- a list of places on ready bytes is the paper's list
 abbrev pub listedOf : Out → Listed
@@ -143,4 +143,4 @@ all-taken-same (i ∷ is) n d r = go (takenBytes d i) refl (taken-left d r i) (�
         ih e (l′ .ready) ∙ ap₂ (λ (u : Table) (m : ℕ). steps u (runOf e) m is) (l′ .table) (add-one n) ∙ sym (rw b)
     go (out (suc m) k e) z l ih =
         let b : step (tableOf d) (runOf d) i ≡ refused (suc m) = sym (bridge d r i) ∙ ap outcomeOf z in
-        ap (λ (u : List ℕ). listed (suc m) n (runOf u)) (taken-refused d i m k e z) ∙ sym (rw b)
+        ap (λ (u : List ℕ). listed (suc m) n (runOf u)) (taken-refused d i m k e z .1) ∙ sym (rw b)
