@@ -44,7 +44,7 @@ fn copy_in(run: &mut [u8], at: usize, from: &[u8], n: usize)
 }
 
 // n bytes v from `at` on.
-fn fill(run: &mut [u8], at: usize, n: usize, v: u8)
+pub fn fill(run: &mut [u8], at: usize, n: usize, v: u8)
     requires { ⌜ at + n ≤ length (now run) ⌝ }
     ensures { λ _. ⌜ now (run .exit) ≡ put at (replicate n v) (now (run .entry)) ⌝ }
 {
@@ -183,7 +183,7 @@ pub fn set_sizes(run: &mut [u8], s: u8, v: u8, r: u8, e: u8)
 }
 
 // A record's symbol, low byte first, and its part count n, from `at` on.
-fn put_head(run: &mut [u8], at: usize, symbol: u64, n: u8)
+pub fn put_head(run: &mut [u8], at: usize, symbol: u64, n: u8)
     requires { ⌜ at + symbolBytes + 1 ≤ length (now run) ⌝ }
     ensures { λ _. ⌜ now (run .exit) ≡ put at (bytesOf symbolBytes symbol ++ (n ∷ [])) (now (run .entry)) ⌝ }
 {

@@ -5,6 +5,8 @@ mod offsets; // offsets.rt: where each field stands
 
 pub use changes::append_item;
 pub use changes::clear;
+pub use changes::fill;
+pub use changes::put_head;
 pub use changes::remove_item;
 pub use changes::save_store;
 pub use changes::set_clash;
@@ -27,3 +29,4 @@ pub use fields::records;
 pub use fields::statements;
 pub use fields::symbol_at;
 pub use fields::unknowns;
+pub use offsets::RUN_BYTES;

@@ -69,7 +69,7 @@ stages-accepted {f} w h =
     }
 
 -- an accepted file has no byte left
-ended-got : (f : List ℕ) (r : Read File) (x : File) (to : ℕ) → ended f r ≡ got x to → (r ≡ got x to) × (length f ≤ to)
+pub ended-got : (f : List ℕ) (r : Read File) (x : File) (to : ℕ) → ended f r ≡ got x to → (r ≡ got x to) × (length f ≤ to)
 ended-got f (fault k p) x to e = absurd (fault-got e)
 ended-got f (got y t) x to e = go (ltb t (length f)) refl e
   where

@@ -12,3 +12,6 @@ pub mod Spans
 pub mod Loaded
 pub mod AsLoaded
 pub mod BothWays
+pub mod Filled
+pub mod ReadValues
+pub mod LoadCalls

@@ -132,7 +132,7 @@ module _ (i : ℕ) (q : Record) (d : List ℕ) (long : length d ≡ runBytes) (h
   pub fits : recordFrom i + length row ≤ length d
   fits = omega (arith, row-length, long)
 
-  written-long : length (withRecord i q d) ≡ length d
+  pub written-long : length (withRecord i q d) ≡ length d
   unfolding withRecord row
   written-long = length-put (recordFrom i) row d fits
 

@@ -1,6 +1,6 @@
 -- What the code's answers mean as the paper's reads.
 use mathlib.Core.Path.{_≡_}
-use mathlib.Core.List.{List}
+use mathlib.Core.List.{List, []}
 use Prim.Native.Nat.{ℕ, suc, _-_, _≤_}
 use lib.ListN.{length, take, drop, replicate}
 use Rattle.paper.specs.Sizes.{mostCabinets, mostUnknowns, mostRecords, mostParts}
@@ -38,6 +38,15 @@ module _ {A : Type 0} where
   abbrev pub nextOf : Read A → ℕ
   nextOf (got a to) = to
   nextOf (fault k p) = 0
+
+-- a read that was not refused
+abbrev pub WasRead : {A : Type 0} → Read A → Type 0
+WasRead x = endOf x ≡ At (nextOf x)
+
+-- the values that were read
+abbrev pub listOf : {A : Type 0} → Read (List A) → List A
+listOf (got l to) = l
+listOf (fault k p) = []
 
 -- S, V and R
 pub record Heading : Type 0 where
