@@ -34,7 +34,7 @@ module _ (at n v : ℕ) (d : List ℕ) where
   fill-all i l h1 h2 e = push-all at n d (replicate n v) i l (length-replicate n v) h1 h2 e
 
 -- a list put right after another; a list put over all there is; one byte put
-put-then : (at : ℕ) (vs ws d : List ℕ) → at + length vs + length ws ≤ length d → put (at + length vs) ws (put at vs d) ≡ put at (vs ++ ws) d
+pub put-then : (at : ℕ) (vs ws d : List ℕ) → at + length vs + length ws ≤ length d → put (at + length vs) ws (put at vs d) ≡ put at (vs ++ ws) d
 unfolding put
 put-then at vs ws d h =
     let a : length (take at d ++ vs) ≡ at + length vs = length-append (take at d) vs ∙ ap (λ (k : ℕ). k + length vs) (length-take-le at d (omega arith)) in
@@ -42,7 +42,7 @@ put-then at vs ws d h =
     rw (← a) (drop-append-add (take at d ++ vs) (drop (length (take at d ++ vs)) d) (length ws)) in
     rw (take-at (take at d ++ vs) (drop (at + length vs) d) (at + length vs) a, b, drop-drop, length-append, ← add-assoc, ← append-assoc)
 
-put-over : (vs d : List ℕ) → length vs ≡ length d → put 0 vs d ≡ vs
+pub put-over : (vs d : List ℕ) → length vs ≡ length d → put 0 vs d ≡ vs
 unfolding put
 put-over vs d h = rw (zero-add, drop-of-length-le d {i = length vs} (omega arith)) (append-nil vs)
 

@@ -29,4 +29,8 @@ pub use fields::records;
 pub use fields::statements;
 pub use fields::symbol_at;
 pub use fields::unknowns;
+pub use offsets::ITEM_BYTES;
+pub use offsets::MEMOS;
+pub use offsets::OWNERS;
+pub use offsets::PENDING;
 pub use offsets::RUN_BYTES;

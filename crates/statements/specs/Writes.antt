@@ -1,19 +1,26 @@
 -- What writing takes from a run's bytes: when a sound run is as loaded, the file that it is, and what the call leaves.
 use mathlib.Core.Bool.{Bool, true, false, _&&_}
-use mathlib.Core.List.{List}
-use Prim.Native.Nat.{ℕ, _+_, _-_}
+use mathlib.Core.List.{List, _++_}
+use mathlib.Core.Path.{_≡_}
+use Prim.Native.Nat.{ℕ, _+_, _-_, _≤_}
 use lib.Dec.{eqb}
 use lib.ListN.{length}
 use Rattle.base.specs.Choice.{pick, allBelow}
 use Rattle.base.specs.Lists.{listFrom}
+use Rattle.base.specs.Regions.{put}
 use Rattle.paper.specs.Sizes.{longestFile}
 use Rattle.paper.specs.Refusals.{wrongLength, notSound, notAsLoaded}
+use Rattle.paper.specs.Numbers.{numberBytes}
 use Rattle.paper.specs.Runs.{Statement}
 use Rattle.paper.specs.Files.{File, Read, got, fault, fileBytes, paddedFile, readFile}
-use Rattle.layout.specs.Offsets.{clashAt, statementsAt, ownersAt, memosAt, pendingAt, runBytes, itemFrom}
+use Rattle.layout.specs.Offsets.{clashAt, cabinetsAt, unknownsAt, recordsAt, statementsAt, ownersAt, memosAt, pendingAt, runBytes, itemFrom}
 use Rattle.layout.specs.Fields.{byteAt, countOf, tableOf}
 use Rattle.layout.specs.Soundness.{soundBytes, zerosAt}
 use Rattle.statements.specs.Loads.{loadedBytes}
+
+-- the n bytes from `at` on are all v
+unfoldable pub allAre : ℕ → ℕ → ℕ → List ℕ → Bool
+allAre v n at d = allBelow n (λ i. eqb (byteAt d (at + i)) v)
 
 -- marks 255: n of them from `at` on
 unfoldable pub unmarkedAt : ℕ → ℕ → List ℕ → Bool
@@ -37,6 +44,20 @@ statementAt d p = record { cabinet = byteAt d (itemFrom p + 1); left = byteAt d 
 -- the file that an as-loaded run is
 unfoldable pub fileOf : List ℕ → File
 fileOf d = record { table = tableOf d; statements = listFrom (statementAt d) (byteAt d statementsAt) 0 }
+
+-- "S, V, R", with which its table starts
+unfoldable pub sizesBytes : List ℕ → List ℕ
+sizesBytes d = numberBytes (byteAt d cabinetsAt) ++ (numberBytes (byteAt d unknownsAt) ++ numberBytes (byteAt d recordsAt))
+
+-- the bytes bs from `at` on, all else as it was, and the position after them
+pub record PutFrom (at : ℕ) (bs before after : List ℕ) (next : ℕ) : Type 0 where
+  pub past : next ≡ at + length bs
+  pub bytes : after ≡ put at bs before
+
+-- the run's file at the start of a buffer with room for it
+pub record FilePut (d before after : List ℕ) (next : ℕ) : Type 0 where
+  pub put : PutFrom 0 (fileBytes (fileOf d)) before after next
+  pub fits : length (fileBytes (fileOf d)) ≤ length before
 
 -- number (0 for done, else the refusal), position or length, and the bytes of the lent buffer
 pub data Answer : Type 0 where

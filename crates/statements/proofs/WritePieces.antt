@@ -1,0 +1,266 @@
+-- Laws of writing a run's pieces: what each loop and each way out asks.
+use Prim.Native.Nat.{ℕ, _+_, _-_, _≤_, _<_}
+use mathlib.Core.Path.{_≡_, refl, sym, ap, subst, _∙_}
+use mathlib.Core.Bool.{Bool, true, false, not}
+use mathlib.Core.List.{List, _++_}
+use native.Mathlib.Omega.{arith}
+use borrow.Author.Tests.{eq-eqb, ne-eqb, not-true, not-false}
+use lib.Dec.{eqb}
+use lib.ListN.{length, length-append}
+use Rattle.base.specs.Lists.{listFrom}
+use Rattle.base.proofs.Ranges.{below-none, below-more, below-all, below-fails}
+use Rattle.base.proofs.Froms.{from-length}
+use Rattle.numbers.specs.Written.{Written}
+use Rattle.paper.specs.Sizes.{mostRecords, mostParts, numberLimit}
+use Rattle.paper.specs.Numbers.{numberBytes}
+use Rattle.paper.specs.Files.{each, recordBytes, statementBytes}
+use Rattle.layout.specs.Given.{Reads, byteLimit, countLimit}
+use Rattle.layout.specs.Soundness.{zerosAt, soundBytes}
+use Rattle.layout.specs.Fields.{byteAt, countOf, symbolOf, partCountOf, partOf, partsFrom, recordOf, recordsFrom}
+use Rattle.layout.specs.Offsets.{clashAt, statementsAt, ownersAt, memosAt, pendingAt, runBytes, itemFrom}
+use Rattle.statements.specs.Writes.{allAre, unmarkedAt, allStatements, asLoaded, statementAt, PutFrom}
+use Rattle.layout.proofs.SoundViews.{tested, shaped}
+use Rattle.statements.proofs.Putting.{number-put, put-long, then-put, EachTo, none-put, all-put, one-fits, one-put}
+
+-- a loop over bytes that are to be v, or over items that are to be statements: it stops, goes on, or has passed all
+module _ (v n at : ℕ) (d : List ℕ) (i : ℕ) where
+  abbrev is-v : ℕ → Bool
+  is-v k = eqb (byteAt d (at + k)) v
+
+  pub are-fail : i < n → (byteAt d (at + i) ≡ v → ⊥) → false ≡ allAre v n at d
+  unfolding allAre
+  are-fail l h = sym (below-fails is-v n i l (ne-eqb (byteAt d (at + i)) v h))
+
+  pub are-none : allAre v 0 at d ≡ true
+  unfolding allAre
+  are-none = below-none is-v
+
+  pub are-more : allAre v i at d ≡ true → byteAt d (at + i) ≡ v → allAre v (i + 1) at d ≡ true
+  unfolding allAre
+  are-more h e = below-more is-v i h (eq-eqb (byteAt d (at + i)) v e)
+
+  pub are-all : allAre v i at d ≡ true → i ≤ n → n ≤ i → true ≡ allAre v n at d
+  unfolding allAre
+  are-all h l k = sym (below-all is-v n i l k h)
+
+module _ (n : ℕ) (d : List ℕ) (p : ℕ) where
+  abbrev is-statement : ℕ → Bool
+  is-statement k = eqb (byteAt d (itemFrom k)) 1
+
+  pub statements-fail : p < n → (byteAt d (itemFrom p) ≡ 1 → ⊥) → false ≡ allStatements n d
+  unfolding allStatements
+  statements-fail l h = sym (below-fails is-statement n p l (ne-eqb (byteAt d (itemFrom p)) 1 h))
+
+  pub statements-none : allStatements 0 d ≡ true
+  unfolding allStatements
+  statements-none = below-none is-statement
+
+  pub statements-more : allStatements p d ≡ true → byteAt d (itemFrom p) ≡ 1 → allStatements (p + 1) d ≡ true
+  unfolding allStatements
+  statements-more h e = below-more is-statement p h (eq-eqb (byteAt d (itemFrom p)) 1 e)
+
+  pub statements-all : allStatements p d ≡ true → p ≤ n → n ≤ p → true ≡ allStatements n d
+  unfolding allStatements
+  statements-all h l k = sym (below-all is-statement n p l k h)
+
+-- the ways out of `as_loaded`
+module _ (d : List ℕ) (a : ℕ) (ea : Reads (byteAt d clashAt) byteLimit a) where
+  pub clashed-fails : (a ≡ 0 → ⊥) → false ≡ asLoaded d
+  unfolding asLoaded
+  clashed-fails h = rw (← ea .same, ne-eqb a 0 h) refl
+
+  module _ (ha : a ≡ 0) (e : ℕ) (ee : Reads (byteAt d statementsAt) byteLimit e) (n : ℕ) (en : Reads (countOf d) countLimit n) where
+    pub count-fails : (n ≡ e → ⊥) → false ≡ asLoaded d
+    unfolding asLoaded
+    count-fails h = rw (← ea .same, ← ee .same, ← en .same, eq-eqb a 0 ha, ne-eqb n e h) refl
+
+    module _ (hn : n ≡ e) (m : Bool) (em : m ≡ allAre 255 (memosAt - ownersAt) ownersAt d) where
+      pub marks-fail : not m ≡ true → false ≡ asLoaded d
+      unfolding asLoaded unmarkedAt allAre
+      marks-fail h = rw (← ea .same, ← ee .same, ← en .same, eq-eqb a 0 ha, eq-eqb n e hn, ← em, not-true m h) refl
+
+      module _ (hm : not m ≡ false) (z : Bool) (ez : z ≡ allAre 0 (pendingAt - memosAt) memosAt d) where
+        pub memos-fail : not z ≡ true → false ≡ asLoaded d
+        unfolding asLoaded unmarkedAt zerosAt allAre
+        memos-fail h =
+            rw (← ea .same, ← ee .same, ← en .same, eq-eqb a 0 ha, eq-eqb n e hn, ← em, not-false m hm, ← ez, not-true z h) refl
+
+        pub loaded-tested : not z ≡ false → (q : Bool) → q ≡ allStatements e d → q ≡ asLoaded d
+        unfolding asLoaded unmarkedAt zerosAt allAre
+        loaded-tested h q eq =
+            rw (← ea .same, ← ee .same, ← en .same, eq-eqb a 0 ha, eq-eqb n e hn, ← em, not-false m hm, ← ez, not-false z h) eq
+
+-- the parts of a record
+module _ (d : List ℕ) (j n at : ℕ) (m₀ : List ℕ) where
+  unfoldable pub PartsTo : ℕ → ℕ → List ℕ → Type 0
+  PartsTo i here m = EachTo numberBytes (partOf d j) n at m₀ i here m
+
+  pub no-part-put : PartsTo 0 at m₀
+  unfolding PartsTo
+  no-part-put = none-put numberBytes (partOf d j) n at m₀
+
+  module _ (i here : ℕ) (m : List ℕ) (h : PartsTo i here m) where
+    pub parts-long : length m ≡ length m₀
+    unfolding PartsTo
+    parts-long = h .long
+
+    pub parts-put : n ≤ i → PutFrom at (each numberBytes (partsFrom d j n 0)) m₀ m here
+    unfolding PartsTo
+    parts-put g = all-put numberBytes (partOf d j) n at m₀ i here m h g
+
+    module _ (g : i < n) (most : at + length (each numberBytes (partsFrom d j n 0)) ≤ length m₀) (x : ℕ) (e : Reads (partOf d j i) byteLimit x) where
+      pub part-fits-in : here + length (numberBytes x) ≤ length m
+      unfolding PartsTo
+      part-fits-in =
+          subst (λ (y : ℕ). here + length (numberBytes y) ≤ length m) (sym (e .same))
+          (one-fits numberBytes (partOf d j) n at m₀ i here m h g most)
+
+      pub part-number : x < numberLimit
+      part-number = omega (arith, e .small)
+
+      pub part-put : (m′ : List ℕ) (next : ℕ) → Written here x m m′ next → PartsTo (i + 1) next m′
+      unfolding PartsTo
+      part-put m′ next w =
+          one-put numberBytes (partOf d j) n at m₀ i here m h g most m′ next
+          (subst (λ (y : ℕ). PutFrom here (numberBytes y) m m′ next) (e .same) (number-put w))
+
+-- a record
+module _ (d : List ℕ) (i at : ℕ) (m : List ℕ) (most : at + length (recordBytes (recordOf d i)) ≤ length m)
+    (s : ℕ) (es : Reads (symbolOf d i) numberLimit s) (c : ℕ) (ec : Reads (partCountOf d i) byteLimit c) where
+  abbrev parts : List ℕ
+  parts = each numberBytes (partsFrom d i c 0)
+
+  record-is : recordBytes (recordOf d i) ≡ numberBytes s ++ (numberBytes c ++ parts)
+  unfolding recordBytes recordOf
+  record-is =
+      rw (es .same, ec .same)
+      (ap (λ (k : ℕ). numberBytes (symbolOf d i) ++ (numberBytes k ++ each numberBytes (partsFrom d i (partCountOf d i) 0))) (from-length (partOf d i) (partCountOf d i) 0))
+
+  record-length : length (recordBytes (recordOf d i)) ≡ length (numberBytes s) + (length (numberBytes c) + length parts)
+  record-length =
+      ap length record-is ∙ length-append (numberBytes s) (numberBytes c ++ parts) ∙ ap (λ (k : ℕ). length (numberBytes s) + k) (length-append (numberBytes c) parts)
+
+  pub symbol-fits-in : at + length (numberBytes s) ≤ length m
+  symbol-fits-in = omega (arith, record-length)
+
+  pub count-number : c < numberLimit
+  count-number = omega (arith, ec .small)
+
+  pub parts-few : partCountOf d i ≤ mostParts → c ≤ mostParts
+  parts-few h = omega (arith, ec .same)
+
+  module _ (m1 : List ℕ) (p1 : ℕ) (w1 : Written at s m m1 p1) where
+    pub count-fits-in : p1 + length (numberBytes c) ≤ length m1
+    count-fits-in = omega (arith, record-length, w1 .past, put-long (number-put w1) symbol-fits-in)
+
+    module _ (m2 : List ℕ) (p2 : ℕ) (w2 : Written p1 c m1 m2 p2) where
+      pub parts-fit-in : p2 + length (each numberBytes (partsFrom d i c 0)) ≤ length m2
+      parts-fit-in =
+          omega (arith, record-length, w1 .past, w2 .past, put-long (number-put w1) symbol-fits-in, put-long (number-put w2) count-fits-in)
+
+      pub record-put : (m3 : List ℕ) (p3 : ℕ) → PutFrom p2 (each numberBytes (partsFrom d i c 0)) m2 m3 p3
+          → PutFrom at (recordBytes (recordOf d i)) m m3 p3
+      record-put m3 p3 w3 =
+          subst (λ (bs : List ℕ). PutFrom at bs m m3 p3) (sym record-is)
+          (then-put (number-put w1)
+          (then-put (number-put w2) w3 (omega (arith, record-length, w1 .past, put-long (number-put w1) symbol-fits-in)))
+          (omega (arith, record-length, length-append (numberBytes c) parts)))
+
+-- the records
+module _ (d : List ℕ) (n at : ℕ) (m₀ : List ℕ) where
+  unfoldable pub RecordsPutTo : ℕ → ℕ → List ℕ → Type 0
+  RecordsPutTo i here m = EachTo recordBytes (recordOf d) n at m₀ i here m
+
+  pub no-record-put : RecordsPutTo 0 at m₀
+  unfolding RecordsPutTo
+  no-record-put = none-put recordBytes (recordOf d) n at m₀
+
+  module _ (i here : ℕ) (m : List ℕ) (h : RecordsPutTo i here m) where
+    pub records-put-long : length m ≡ length m₀
+    unfolding RecordsPutTo
+    records-put-long = h .long
+
+    pub records-put : n ≤ i → PutFrom at (each recordBytes (recordsFrom d n 0)) m₀ m here
+    unfolding RecordsPutTo
+    records-put g = all-put recordBytes (recordOf d) n at m₀ i here m h g
+
+    module _ (g : i < n) (most : at + length (each recordBytes (recordsFrom d n 0)) ≤ length m₀) where
+      pub record-fits-in : here + length (recordBytes (recordOf d i)) ≤ length m
+      unfolding RecordsPutTo
+      record-fits-in = one-fits recordBytes (recordOf d) n at m₀ i here m h g most
+
+      -- a sound run's records have at most four parts
+      pub record-parts-few : length d ≡ runBytes → soundBytes d ≡ true → n ≤ mostRecords → partCountOf d i ≤ mostParts
+      record-parts-few l s k = shaped d l (tested d s) .parts i (omega arith)
+
+      pub next-record : (m′ : List ℕ) (next : ℕ) → PutFrom here (recordBytes (recordOf d i)) m m′ next → RecordsPutTo (i + 1) next m′
+      unfolding RecordsPutTo
+      next-record m′ next w = one-put recordBytes (recordOf d) n at m₀ i here m h g most m′ next w
+
+-- a statement
+module _ (d : List ℕ) (p at : ℕ) (m : List ℕ) (most : at + length (statementBytes (statementAt d p)) ≤ length m)
+    (c : ℕ) (ec : Reads (byteAt d (itemFrom p + 1)) byteLimit c) (a : ℕ) (ea : Reads (byteAt d (itemFrom p + 2)) byteLimit a)
+    (b : ℕ) (eb : Reads (byteAt d (itemFrom p + 3)) byteLimit b) where
+  statement-is : statementBytes (statementAt d p) ≡ numberBytes c ++ (numberBytes a ++ numberBytes b)
+  unfolding statementBytes
+  statement-is = rw (ec .same, ea .same, eb .same) refl
+
+  statement-length : length (statementBytes (statementAt d p)) ≡ length (numberBytes c) + (length (numberBytes a) + length (numberBytes b))
+  statement-length =
+      ap length statement-is ∙ length-append (numberBytes c) (numberBytes a ++ numberBytes b)
+      ∙ ap (λ (k : ℕ). length (numberBytes c) + k) (length-append (numberBytes a) (numberBytes b))
+
+  pub cabinet-number : c < numberLimit
+  cabinet-number = omega (arith, ec .small)
+
+  pub left-number : a < numberLimit
+  left-number = omega (arith, ea .small)
+
+  pub right-number : b < numberLimit
+  right-number = omega (arith, eb .small)
+
+  pub cabinet-fits-in : at + length (numberBytes c) ≤ length m
+  cabinet-fits-in = omega (arith, statement-length)
+
+  module _ (m1 : List ℕ) (p1 : ℕ) (w1 : Written at c m m1 p1) where
+    pub left-fits-in : p1 + length (numberBytes a) ≤ length m1
+    left-fits-in = omega (arith, statement-length, w1 .past, put-long (number-put w1) cabinet-fits-in)
+
+    module _ (m2 : List ℕ) (p2 : ℕ) (w2 : Written p1 a m1 m2 p2) where
+      pub right-fits-in : p2 + length (numberBytes b) ≤ length m2
+      right-fits-in =
+          omega (arith, statement-length, w1 .past, w2 .past, put-long (number-put w1) cabinet-fits-in, put-long (number-put w2) left-fits-in)
+
+      pub statement-put : (m3 : List ℕ) (p3 : ℕ) → Written p2 b m2 m3 p3 → PutFrom at (statementBytes (statementAt d p)) m m3 p3
+      statement-put m3 p3 w3 =
+          subst (λ (bs : List ℕ). PutFrom at bs m m3 p3) (sym statement-is)
+          (then-put (number-put w1)
+          (then-put (number-put w2) (number-put w3) (omega (arith, statement-length, w1 .past, put-long (number-put w1) cabinet-fits-in)))
+          (omega (arith, statement-length, length-append (numberBytes a) (numberBytes b))))
+
+-- the statements
+module _ (d : List ℕ) (n at : ℕ) (m₀ : List ℕ) where
+  unfoldable pub StatementsPutTo : ℕ → ℕ → List ℕ → Type 0
+  StatementsPutTo i here m = EachTo statementBytes (statementAt d) n at m₀ i here m
+
+  pub no-statement-put : StatementsPutTo 0 at m₀
+  unfolding StatementsPutTo
+  no-statement-put = none-put statementBytes (statementAt d) n at m₀
+
+  module _ (i here : ℕ) (m : List ℕ) (h : StatementsPutTo i here m) where
+    pub statements-put-long : length m ≡ length m₀
+    unfolding StatementsPutTo
+    statements-put-long = h .long
+
+    pub statements-put : n ≤ i → PutFrom at (each statementBytes (listFrom (statementAt d) n 0)) m₀ m here
+    unfolding StatementsPutTo
+    statements-put g = all-put statementBytes (statementAt d) n at m₀ i here m h g
+
+    module _ (g : i < n) (most : at + length (each statementBytes (listFrom (statementAt d) n 0)) ≤ length m₀) where
+      pub statement-fits-in : here + length (statementBytes (statementAt d i)) ≤ length m
+      unfolding StatementsPutTo
+      statement-fits-in = one-fits statementBytes (statementAt d) n at m₀ i here m h g most
+
+      pub next-statement : (m′ : List ℕ) (next : ℕ) → PutFrom here (statementBytes (statementAt d i)) m m′ next → StatementsPutTo (i + 1) next m′
+      unfolding StatementsPutTo
+      next-statement m′ next w = one-put statementBytes (statementAt d) n at m₀ i here m h g most m′ next w
