@@ -46,7 +46,7 @@ over-view d (inl c) = inl (clashed-view d c)
 over-view d (inr p) = inr (finished-view d p)
 
 -- and back
-view-clashed : (d : List ℕ) → Ready d → Clashed (runOf d) → HasClashed d
+pub view-clashed : (d : List ℕ) → Ready d → Clashed (runOf d) → HasClashed d
 unfolding runOf stateOf
 view-clashed d r c = go (eqb (byteAt d clashAt) 0) refl (c .1)
   where
@@ -54,7 +54,7 @@ view-clashed d r c = go (eqb (byteAt d clashAt) 0) refl (c .1)
     go true e z = absurd (let y : _≡_ {A = ℕ} 0 1 = cc in omega arith)
     go false e z = let ne : byteAt d clashAt ≡ 0 → ⊥ = eqb-false (byteAt d clashAt) 0 e in omega (arith, r .canonical .flag)
 
-view-finished : (d : List ℕ) → Finished (runOf d) → NothingPending d
+pub view-finished : (d : List ℕ) → Finished (runOf d) → NothingPending d
 unfolding runOf stateOf
 view-finished d f = record { running = go (eqb (byteAt d clashAt) 0) refl (f .unclashed); empty = sym (from-length (itemAt d) (countOf d) 0) ∙ ap length (f .empty) }
   where
@@ -97,7 +97,7 @@ step-count : (s : List ℕ) (f : File) → Accepted s f → (n : ℕ) (d : List 
 step-count s f a n d h = counts.step-count (f .table) (f .statements) (file-ok s f a) (viewed s f a h .reached)
 
 -- what a step on bytes reached from a file is in the paper
-in-paper : (s : List ℕ) (f : File) (a : Accepted s f) (n : ℕ) (d : List ℕ) (h : FromFile s n d) (i : ℕ) → outcomeOf (stepBytes d i) ≡ step (f .table) (runOf d) i
+pub in-paper : (s : List ℕ) (f : File) (a : Accepted s f) (n : ℕ) (d : List ℕ) (h : FromFile s n d) (i : ℕ) → outcomeOf (stepBytes d i) ≡ step (f .table) (runOf d) i
 in-paper s f a n d h i =
     let v = viewed s f a h in
     ap outcomeOf (taken-step d (v .ready) i) ∙ bridge d (v .ready) i ∙ ap (λ (u : Table). step u (runOf d) i) (v .table)

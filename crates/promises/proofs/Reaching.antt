@@ -73,7 +73,7 @@ all-bytes (x ∷ l) b = (b 0, all-bytes l (λ i. b (suc i)))
 pub file-ok : (s : List ℕ) (f : File) → Accepted s f → FileOk (f .table) (f .statements)
 file-ok s f a = read-written s (all-bytes s (a .bytes)) f (a .end) (a .read) .ok
 
-loaded-is : (s before d : List ℕ) (f : File) (at : ℕ) → readFile s ≡ got f at → loadBytes s before ≡ answer 0 0 d → d ≡ loadedBytes f
+pub loaded-is : (s before d : List ℕ) (f : File) (at : ℕ) → readFile s ≡ got f at → loadBytes s before ≡ answer 0 0 d → d ≡ loadedBytes f
 unfolding loadBytes
 loaded-is s before d f at r h = go (eqb (length before) runBytes) h
   where

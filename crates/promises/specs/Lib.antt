@@ -1,2 +1,4 @@
 pub mod FromFiles
 pub mod Demands
+pub mod Sentences
+pub mod UselessBodies
