@@ -21,6 +21,7 @@ ghost use Rattle.statements.specs.Writes.{answer, loadBytes};
 const WRONG_LENGTH: usize = 12;
 
 // The reply to a load: 0 for done, else the refusal; and the position of the fault, else 0.
+#[repr(C)]
 pub struct LoadReply {
     pub number: usize,
     pub position: usize,

@@ -96,6 +96,7 @@ pub(crate) struct Checked {
 }
 
 // A part of a file: where it starts, and its length.
+#[repr(C)]
 pub struct Span {
     pub start: usize,
     pub size: usize,

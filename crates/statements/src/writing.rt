@@ -29,6 +29,7 @@ const NOT_AS_LOADED: usize = 19;
 const STATEMENT: u8 = 1;
 
 // The reply to a write: 0 for done, else the refusal; and the file's length, else 0.
+#[repr(C)]
 pub struct WriteReply {
     pub number: usize,
     pub length: usize,
