@@ -46,7 +46,7 @@ pub put-over : (vs d : List ℕ) → length vs ≡ length d → put 0 vs d ≡ v
 unfolding put
 put-over vs d h = rw (zero-add, drop-of-length-le d {i = length vs} (omega arith)) (append-nil vs)
 
-put-one : (at v : ℕ) (d : List ℕ) → at < length d → set d at v ≡ put at (v ∷ []) d
+pub put-one : (at v : ℕ) (d : List ℕ) → at < length d → set d at v ≡ put at (v ∷ []) d
 unfolding put
 put-one at v d h = sets-eq (v ∷ []) d at (omega arith)
 

@@ -6,3 +6,4 @@ pub mod CanonicalKept
 pub mod SameBytes
 pub mod FieldLaws
 pub mod ChangeLaws
+pub mod ViewedFields

@@ -141,7 +141,7 @@ module _ (d : List ℕ) where
   abbrev t : Table
   t = tableOf d
 
-  entries-are : entries t ≡ byteAt d unknownsAt + byteAt d recordsAt
+  pub entries-are : entries t ≡ byteAt d unknownsAt + byteAt d recordsAt
   unfolding tableOf
   entries-are = ap (λ (n : ℕ). byteAt d unknownsAt + n) (from-length (recordOf d) (byteAt d recordsAt) 0)
 
@@ -214,7 +214,7 @@ module _ (d : List ℕ) (long : length d ≡ runBytes) (w : Tested d) where
       (passed (ltb i (byteAt d recordsAt)) (partsOk (byteAt d unknownsAt) i d) (zerosAt recordBytes (recordFrom i) d) (le-ltb i (byteAt d recordsAt) h) (record-test i l))
       k m)
 
-  part-count : (i : ℕ) → i < byteAt d recordsAt → partCountOf d i ≤ mostParts
+  pub part-count : (i : ℕ) → i < byteAt d recordsAt → partCountOf d i ≤ mostParts
   unfolding partsOk
   part-count i h = leb-true (partCountOf d i) mostParts (fst-true _ (allBelow mostParts (λ k. pick (ltb k (partCountOf d i)) (ltb (partOf d i k) (byteAt d unknownsAt)) (eqb (partOf d i k) 0))) (used i h))
 
@@ -224,6 +224,13 @@ module _ (d : List ℕ) (long : length d ≡ runBytes) (w : Tested d) where
   part-test i h k l =
       below-each (λ k. pick (ltb k (partCountOf d i)) (ltb (partOf d i k) (byteAt d unknownsAt)) (eqb (partOf d i k) 0)) mostParts
       (snd-true (leb (partCountOf d i) mostParts) _ (used i h)) k l
+
+  -- a part is an unknown
+  pub part-low : (i : ℕ) → i < byteAt d recordsAt → (k : ℕ) → k < partCountOf d i → partOf d i k < byteAt d unknownsAt
+  part-low i h k l =
+      ltb-true (partOf d i k) (byteAt d unknownsAt)
+      (picked (ltb k (partCountOf d i)) (ltb (partOf d i k) (byteAt d unknownsAt)) (eqb (partOf d i k) 0) (lt-ltb k (partCountOf d i) l)
+      (part-test i h k (omega (arith, part-count i h))))
 
   pub shaped : Shaped d
   shaped = record { long = long; records = range .records; parts = parts; count = range .count }
@@ -266,21 +273,15 @@ module _ (d : List ℕ) (long : length d ≡ runBytes) (w : Tested d) where
           record {
             symbol = symbol-below b i (omega (arith, range .records));
             count = omega (arith, from-length (partOf d i) (partCountOf d i) 0, part-count i h);
-            parts = from-all (λ p. p < byteAt d unknownsAt) (partOf d i) (partCountOf d i) 0 (λ k a l. part k (omega arith));
+            parts = from-all (λ p. p < byteAt d unknownsAt) (partOf d i) (partCountOf d i) 0 (λ k a l. part-low i h k (omega arith));
           }
-        where
-          part : (k : ℕ) → k < partCountOf d i → partOf d i k < byteAt d unknownsAt
-          part k l =
-              ltb-true (partOf d i k) (byteAt d unknownsAt)
-              (picked (ltb k (partCountOf d i)) (ltb (partOf d i k) (byteAt d unknownsAt)) (eqb (partOf d i k) 0) (lt-ltb k (partCountOf d i) l)
-              (part-test i h k (omega (arith, part-count i h))))
 
   owner-test : (x : ℕ) → x < mostUnknowns
       → (eqb (byteAt d (ownersAt + x)) 255 || lesser (byteAt d unknownsAt) (byteAt d recordsAt) (byteAt d (ownersAt + x)) x) ≡ true
   unfolding ownersOk ownerOk
   owner-test x h = below-each (ownerOk (byteAt d unknownsAt) (byteAt d recordsAt) d) mostUnknowns (w .owners) x h
 
-  owner-ok : (x : ℕ) → OwnerOk (tableOf d) x (ownerOf d x)
+  pub owner-ok : (x : ℕ) → OwnerOk (tableOf d) x (ownerOf d x)
   unfolding ownerOf
   owner-ok x = go (ltb x mostUnknowns) refl
     where

@@ -1,0 +1,8 @@
+pub mod Ranges
+pub mod Chains
+pub mod Bits
+pub mod MetTable
+pub mod AgreementLaws
+pub mod Lowest
+pub mod Drawing
+pub mod MapCall

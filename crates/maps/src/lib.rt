@@ -1,1 +1,44 @@
 // The map of a run: owner marks followed to their end, agreement with a table of met pairs, and the 352 bytes.
+mod agreement; // agreement.rt: whether two unknowns agree
+mod ends; // ends.rt: owner marks followed to their end
+mod met; // met.rt: the table of met pairs
+mod rows; // rows.rt: the rows of the map
+
+use rows::MAP_BYTES;
+use rows::draw;
+ghost use mathlib.Core.Path.{_≡_};
+ghost use Rattle.maps.specs.Bytes.{mapped, mapBytesOf};
+
+// The refusals of a map call, in their order; 0 means done.
+const WRONG_LENGTH: usize = 12;
+
+const NOT_SOUND: usize = 17;
+
+const HAS_CLASHED: usize = 15;
+
+const ITEMS_PENDING: usize = 16;
+
+const DONE: usize = 0;
+
+// The map of a run that is over, or the refusal's number; a refusal leaves the map's bytes.
+pub fn map(run: &[u8], map: &mut [u8]) -> usize
+    ensures { λ r. ⌜ mapped r (now (map .exit)) ≡ mapBytesOf (now (run .entry)) (now (map .entry)) ⌝ }
+{
+    if run.len() != layout::RUN_BYTES {
+        return WRONG_LENGTH;
+    }
+    if map.len() != MAP_BYTES {
+        return WRONG_LENGTH;
+    }
+    if !soundness::sound(run) {
+        return NOT_SOUND;
+    }
+    if layout::clash_byte(run) != 0 {
+        return HAS_CLASHED;
+    }
+    if layout::count(run) != 0 {
+        return ITEMS_PENDING;
+    }
+    draw(run, layout::unknowns(run), map);
+    DONE
+}

@@ -10,6 +10,13 @@ ghost use Rattle.paper.specs.Files.{statementSpan};
 ghost use Rattle.statements.specs.Reads.{spanOf};
 ghost use Rattle.statements.specs.Writes.{answer, loadBytes, writtenBytes};
 ghost use Rattle.rules.specs.Bytes.{out, stepBytes, stepsBytes};
+ghost use Rattle.maps.specs.Bytes.{mapped, mapBytesOf};
+
+// The reply to a map call.
+#[repr(C)]
+pub struct MapReply {
+    pub number: usize,
+}
 
 // The file into the run: number and the fault's position.
 #[no_mangle]
@@ -41,6 +48,16 @@ pub extern "C" fn sc_steps(run: &mut [u8], places: &[u32]) -> ListReply
     ensures { λ r. ⌜ out (r .number) (r .done) (now (run .exit)) ≡ stepsBytes (now (run .entry)) (now (places .entry)) ⌝ }
 {
     rules::steps(run, places)
+}
+
+// The map of a run that has come to its end unclashed: number.
+#[no_mangle]
+pub extern "C" fn sc_map(run: &[u8], map: &mut [u8]) -> MapReply
+    ensures { λ r. ⌜ mapped (r .number) (now (map .exit)) ≡ mapBytesOf (now (run .entry)) (now (map .entry)) ⌝ }
+{
+    MapReply {
+        number: maps::map(run, map),
+    }
 }
 
 // The run, if it is as loaded, back into its file: number and the file's length.

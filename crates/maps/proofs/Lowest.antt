@@ -1,0 +1,92 @@
+-- The lowest same item: the first that agrees, found by a loop; and the lowest same items of a record's parts.
+use mathlib.Core.Path.{_≡_, refl, sym, ap, _∙_}
+use mathlib.Core.Bool.{Bool, true, false}
+use mathlib.Core.List.{List, _∷_, map}
+use Prim.Native.Nat.{ℕ, zero, suc, _+_, _-_, _≤_, _<_}
+use native.Mathlib.Numerals.{add-one}
+use native.Mathlib.Omega.{arith}
+use lib.ListN.{length, getD, take, set}
+use Rattle.base.specs.Choice.{firstOf}
+use Rattle.base.specs.Lists.{listFrom}
+use Rattle.base.specs.Regions.{put}
+use Rattle.base.proofs.Froms.{from-length, from-getD}
+use Rattle.base.proofs.Regions.{push-none, push-more, push-all}
+use Rattle.paper.specs.Ends.{agree}
+use Rattle.paper.specs.Maps.{lowestOf}
+use Rattle.layout.specs.Fields.{partCountOf, partOf, recordOf}
+use Rattle.layout.specs.Given.{Reads, byteLimit}
+use Rattle.maps.specs.Given.{SoundRun, OneRecord}
+use Rattle.maps.specs.Ends.{endsOf}
+use Rattle.maps.specs.Rows.{lowsOf}
+
+module _ (f : ℕ → Bool) (x y : ℕ) (l : y < x) where
+  first-is-here : f y ≡ true → firstOf f (x - y) y ≡ y
+  first-is-here e = let k : x - y ≡ suc (x - (y + 1)) = omega arith in rw (k, firstOf, e)
+
+  first-is-later : f y ≡ false → firstOf f (x - y) y ≡ firstOf f (x - (y + 1)) (y + 1)
+  first-is-later e = let k : x - y ≡ suc (x - (y + 1)) = omega arith in rw (k, firstOf, e, add-one) refl
+
+-- what the loop over y below x asks
+module _ (d : List ℕ) (v x : ℕ) where
+  pub lowest-from-0 : firstOf (agree (endsOf d) v x) (x - 0) 0 ≡ lowestOf (endsOf d) v x
+  unfolding lowestOf
+  lowest-from-0 = ap (λ (k : ℕ). firstOf (agree (endsOf d) v x) k 0) (minus-zero x)
+    where
+      minus-zero : (n : ℕ) → n - 0 ≡ n
+      minus-zero n = omega arith
+
+  module _ (y : ℕ) (i : firstOf (agree (endsOf d) v x) (x - y) y ≡ lowestOf (endsOf d) v x) where
+    pub lowest-found : (b : Bool) → SoundRun d v → x < v → y < x → b ≡ agree (endsOf d) v x y → b ≡ true
+        → Reads (lowestOf (endsOf d) v x) byteLimit y
+    lowest-found b g h l e t =
+        let f = g .few-unknowns in
+        record { same = sym (first-is-here (agree (endsOf d) v x) x y l (sym e ∙ t)) ∙ i; small = omega arith }
+
+    pub lowest-later : (b : Bool) → y < x → b ≡ agree (endsOf d) v x y → b ≡ false
+        → firstOf (agree (endsOf d) v x) (x - (y + 1)) (y + 1) ≡ lowestOf (endsOf d) v x
+    lowest-later b l e t = sym (first-is-later (agree (endsOf d) v x) x y l (sym e ∙ t)) ∙ i
+
+    pub lowest-itself : SoundRun d v → x < v → y ≤ x → x ≤ y → Reads (lowestOf (endsOf d) v x) byteLimit x
+    lowest-itself g h l k =
+        let f = g .few-unknowns in
+        let n : x - y ≡ 0 = omega arith in
+        let e : x ≡ y = omega arith in
+        record { same = e ∙ (rw n at i); small = omega arith }
+
+-- a list made from a function, each element changed
+map-from : (f g : ℕ → ℕ) (n i : ℕ) → map f (listFrom g n i) ≡ listFrom (λ k. f (g k)) n i
+map-from f g zero i = refl
+map-from f g (suc n) i = ap (λ (l : List ℕ). f (g i) ∷ l) (map-from f g n (suc i))
+
+-- what the loop over the parts of a record asks
+module _ (d : List ℕ) (v i n : ℕ) (w : OneRecord d v i n) where
+  lows-from : lowsOf d v i ≡ listFrom (λ k. lowestOf (endsOf d) v (partOf d i k)) n 0
+  unfolding lowsOf recordOf
+  lows-from = rw (w .count) (map-from (lowestOf (endsOf d) v) (partOf d i) (partCountOf d i) 0)
+
+  pub lows-count : length (lowsOf d v i) ≡ n
+  lows-count = ap length lows-from ∙ from-length (λ k. lowestOf (endsOf d) v (partOf d i k)) n 0
+
+  low-at : (j : ℕ) → j < n → getD (lowsOf d v i) j 0 ≡ lowestOf (endsOf d) v (partOf d i j)
+  low-at j h =
+      ap (λ (l : List ℕ). getD l j 0) lows-from
+      ∙ from-getD (λ k. lowestOf (endsOf d) v (partOf d i k)) n 0 j 0 h
+      ∙ ap (λ (k : ℕ). lowestOf (endsOf d) v (partOf d i k)) (zero-plus j)
+    where
+      zero-plus : (k : ℕ) → 0 + k ≡ k
+      zero-plus k = omega arith
+
+-- j of them put
+pub no-lows : (d : List ℕ) (v i at : ℕ) (m : List ℕ) → m ≡ put at (take 0 (lowsOf d v i)) m
+no-lows d v i at m = push-none at 0 m (lowsOf d v i)
+
+module _ (d : List ℕ) (v i n : ℕ) (w : OneRecord d v i n) where
+  module _ (at j : ℕ) (m l : List ℕ) where
+    pub lows-more : (p r : ℕ) → l ≡ put at (take j (lowsOf d v i)) m → at + n ≤ length m → j < n → Reads (partOf d i j) byteLimit p
+        → Reads (lowestOf (endsOf d) v p) byteLimit r → set l (at + j) r ≡ put at (take (j + 1) (lowsOf d v i)) m
+    lows-more p r e h k rp rr =
+        let q : r ≡ getD (lowsOf d v i) j 0 = rr .same ∙ ap (lowestOf (endsOf d) v) (rp .same) ∙ sym (low-at d v i n w j k) in
+        rw q (push-more at n m (lowsOf d v i) j l h (lows-count d v i n w) k e)
+
+    pub lows-all : l ≡ put at (take j (lowsOf d v i)) m → j ≤ n → n ≤ j → l ≡ put at (lowsOf d v i) m
+    lows-all e h k = push-all at n m (lowsOf d v i) j l (lows-count d v i n w) h k e
