@@ -39,7 +39,7 @@ place-around t r i = go (ltb (firstOf (isReady t r) (length (r .pending) - i) i)
     go true e = rw (e, readyPlace)
     go false e = rw (e, readyPlace)
 
-one-less : (n : ℕ) → 0 < n → n ≡ suc (n - 1)
+pub one-less : (n : ℕ) → 0 < n → n ≡ suc (n - 1)
 one-less n h = omega arith
 
 module _ (d : List ℕ) (r : Ready d) where

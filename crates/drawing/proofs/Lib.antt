@@ -1,1 +1,4 @@
 pub mod DrawnViews
+pub mod StepCounts
+pub mod ScanLaws
+pub mod DrawLaws

@@ -30,6 +30,10 @@ readyFrom d i =
 unfoldable pub takenPlace : List ℕ → ℕ → ℕ
 takenPlace d x = readyFrom d (drawnPlace x (countOf d))
 
+-- the run has clashed, or nothing is pending
+unfoldable pub endedBytes : List ℕ → Bool
+endedBytes d = pick (eqb (byteAt d clashAt) 0) (eqb (countOf d) 0) true
+
 -- at most k drawn steps from state x on, until the run has clashed or nothing is pending
 abbrev pub afterTaken : Out → List ℕ → (List ℕ → List ℕ) → List ℕ
 afterTaken (out zero k e) d f = f e

@@ -1,0 +1,17 @@
+-- `wrapping_mul` meets its contract: the product of two numbers of 32 bits fits in 64.
+use borrow.Author.Needs.{needs}
+use Rattle.drawing.proofs.StepCounts.{product-below}
+use Rattle.drawing.proofs.generator.wrapping_mul.Statement.{statement}
+use Rattle.drawing.proofs.generator.wrapping_mul.Tie as tie
+
+mul-result : tie.Need-mul-result
+mul-result c = record { fits = product-below 32 (search needs) (search needs) }
+
+cast-result : tie.Need-cast-result
+cast-result c = search needs
+
+returns : tie.Need-returns
+returns c = search needs
+
+pub wrapping-mul-spec : {M : Type 1} → statement M
+wrapping-mul-spec = tie.close (tie.spec mul-result cast-result returns)

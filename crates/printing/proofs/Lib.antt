@@ -1,0 +1,5 @@
+pub mod Putting
+pub mod Pieces
+pub mod Lines
+pub mod Bounds
+pub mod MapText

@@ -1,0 +1,90 @@
+-- Laws of putting bytes into a buffer one piece after the other: two pieces, and the pieces of a list in turn.
+use Prim.Native.Nat.{ℕ, suc, _+_, _-_, _≤_, _<_}
+use mathlib.Core.Path.{_≡_, refl, sym, ap, ap₂, _∙_}
+use mathlib.Core.List.{List, [], _++_, append-nil}
+use native.Mathlib.Nat.{sub-zero}
+use native.Mathlib.Omega.{arith}
+use lib.ListN.{length, take, length-append, take-append-drop}
+use Rattle.base.specs.Lists.{listFrom}
+use Rattle.base.specs.Regions.{put, get}
+use Rattle.base.proofs.Regions.{length-put, get-put}
+use Rattle.paper.specs.Files.{each}
+use Rattle.layout.proofs.ChangeLaws.{put-then}
+use Rattle.printing.specs.Puts.{PutFrom}
+
+plus-zero : (n : ℕ) → n + 0 ≡ n
+plus-zero n = omega arith
+
+-- nothing put
+pub put-nothing : (at : ℕ) (d : List ℕ) → put at [] d ≡ d
+unfolding put
+put-nothing at d = rw (append-nil, plus-zero at) (take-append-drop at d)
+
+-- a piece leaves the buffer's length
+pub put-long : {at : ℕ} {bs b a : List ℕ} {next : ℕ} → PutFrom at bs b a next → at + length bs ≤ length b → length a ≡ length b
+put-long {at} {bs} {b} w h = ap length (w .bytes) ∙ length-put at bs b h
+
+-- what was put from the start on stands before the position
+pub put-taken : {bs b a : List ℕ} {next : ℕ} → PutFrom 0 bs b a next → length bs ≤ length b → take next a ≡ bs
+unfolding get
+put-taken {bs} {b} {a} {next} w h =
+    let n : next ≡ length bs = omega (arith, w .past) in
+    ap₂ (λ (k : ℕ) (l : List ℕ). take k l) n (w .bytes) ∙ get-put 0 bs b (omega arith)
+
+-- one piece and then another are both together
+pub then-put : {at : ℕ} {us vs d d1 d2 : List ℕ} {p q : ℕ} → PutFrom at us d d1 p → PutFrom p vs d1 d2 q
+    → at + length us + length vs ≤ length d → PutFrom at (us ++ vs) d d2 q
+then-put {at} {us} {vs} {d} {d1} {d2} {p} {q} u v h =
+    record {
+      past = omega (arith, u .past, v .past, length-append us vs);
+      bytes = v .bytes ∙ rw (u .past, u .bytes) (put-then at us vs d h);
+    }
+
+-- f at n numbers, each put by w: i of them are put, up to `here`
+module _ {A : Type 0} (w : A → List ℕ) (f : ℕ → A) (n at : ℕ) (d₀ : List ℕ) where
+  abbrev leftOf : ℕ → List ℕ
+  leftOf i = each w (listFrom f (n - i) i)
+
+  pub record EachTo (i here : ℕ) (d : List ℕ) : Type 0 where
+    pub kept : put here (leftOf i) d ≡ put at (each w (listFrom f n 0)) d₀
+    pub past : here + length (leftOf i) ≡ at + length (each w (listFrom f n 0))
+    pub long : length d ≡ length d₀
+
+  pub none-put : EachTo 0 at d₀
+  none-put = record { kept = rw sub-zero refl; past = rw sub-zero refl; long = refl }
+
+  module _ (i here : ℕ) (d : List ℕ) (h : EachTo i here d) where
+    pub all-put : n ≤ i → PutFrom at (each w (listFrom f n 0)) d₀ d here
+    all-put g =
+        let z : n - i ≡ 0 = omega arith in
+        let e : leftOf i ≡ [] = rw z refl in
+        record {
+          past = omega (arith, h .past, ap length e);
+          bytes = sym (put-nothing here d) ∙ ap (λ (l : List ℕ). put here l d) (sym e) ∙ h .kept;
+        }
+
+    module _ (g : i < n) (most : at + length (each w (listFrom f n 0)) ≤ length d₀) where
+      one-left : leftOf i ≡ w (f i) ++ leftOf (i + 1)
+      one-left =
+          let z : n - i ≡ suc (n - (i + 1)) = omega arith in
+          let s : suc i ≡ i + 1 = omega arith in
+          ap (λ (k : ℕ). each w (listFrom f k i)) z ∙ ap (λ (k : ℕ). w (f i) ++ each w (listFrom f (n - (i + 1)) k)) s
+
+      split : length (leftOf i) ≡ length (w (f i)) + length (leftOf (i + 1))
+      split = ap length one-left ∙ length-append (w (f i)) (leftOf (i + 1))
+
+      pub one-fits : here + length (w (f i)) ≤ length d
+      one-fits = omega (arith, h .past, h .long, split)
+
+      pub one-put : (d′ : List ℕ) (next : ℕ) → PutFrom here (w (f i)) d d′ next → EachTo (i + 1) next d′
+      one-put d′ next p =
+          record {
+            kept =
+                ap (λ (k : ℕ). put k (leftOf (i + 1)) d′) (p .past)
+                ∙ ap (put (here + length (w (f i))) (leftOf (i + 1))) (p .bytes)
+                ∙ put-then here (w (f i)) (leftOf (i + 1)) d (omega (arith, h .past, h .long, split))
+                ∙ ap (λ (l : List ℕ). put here l d) (sym one-left)
+                ∙ h .kept;
+            past = omega (arith, p .past, h .past, split);
+            long = put-long p one-fits ∙ h .long;
+          }
