@@ -1,0 +1,2 @@
+pub mod NotZero
+pub mod PrintLaws
