@@ -2,7 +2,8 @@
 //! damages drawn at random, and on the model's own samples.
 
 use model::rng::Rng;
-use model::{file, map, run, samples, step};
+use model::{file, map, program, run, samples, step};
+use model::{File, Record, Statement};
 
 /// The lengths of a run, a map and a written file.
 const RUN: usize = 59_752;
@@ -107,6 +108,35 @@ impl Count {
     }
 }
 
+/// The file's run to its end and its map, by the library alone, in a thread with 1 MiB of stack.
+fn mapped_in_a_small_stack(bytes: Vec<u8>, places: Vec<u32>) -> (usize, Vec<u8>) {
+    let calls = move || {
+        let (mut run, mut map) = (vec![0; RUN], vec![7; MAP]);
+        unsafe {
+            sc_load(bytes.as_ptr(), bytes.len(), run.as_mut_ptr(), RUN);
+            sc_steps(run.as_mut_ptr(), RUN, places.as_ptr(), places.len());
+            (sc_map(run.as_ptr(), RUN, map.as_mut_ptr(), MAP).number, map)
+        }
+    };
+    std::thread::Builder::new().stack_size(1 << 20).spawn(calls).expect("a thread").join().expect("1 MiB of stack is enough")
+}
+
+/// Records whose four parts are permutations of the 32 unknowns: agreement nests deep.
+fn permuted(rng: &mut Rng) {
+    let mut parts: Vec<Vec<u8>> = vec![(0..32).collect(); 4];
+    parts.iter_mut().for_each(|list| rng.shuffle(list));
+    let records = (0..32).map(|i| Record { symbol: 7, parts: parts.iter().map(|list| list[i]).collect() }).collect();
+    let statements = (0..32).map(|i| Statement { cabinet: i % 8, left: i, right: 32 + i }).collect();
+    let bytes = file::write(&File { s: 8, v: 32, records, statements });
+    let places = program::places(&bytes).expect("an accepted file");
+    let (mut run, mut expected) = (vec![0; RUN], vec![7; MAP]);
+    run::load(&bytes, &mut run);
+    step::steps(&mut run, &places);
+    let number = map::map(&run, &mut expected);
+    assert_eq!(number, 0, "the run has come to its end");
+    assert!(mapped_in_a_small_stack(bytes, places) == (number, expected), "the map of permuted parts");
+}
+
 fn main() {
     let rounds: usize = std::env::args().nth(1).map_or(200, |n| n.parse().expect("a number of rounds"));
     let mut rng = Rng::new(20_261_115);
@@ -142,5 +172,8 @@ fn main() {
         let mut ours = samples::hand_made(&mut rng).to_bytes();
         count.walk(&mut rng, &mut ours, 30);
     }
-    println!("{} calls, no difference", count.0);
+    for _ in 0..50 {
+        permuted(&mut rng);
+    }
+    println!("{} calls, no difference; 1 MiB of stack is enough", count.0);
 }
