@@ -1,22 +1,13 @@
 //! Sound runs made by hand and damaged runs: soundness byte by byte, the order of refusals, and calls that leave every lent byte.
 
+mod common;
+
+use common::{loaded, poked};
 use model::map::{of_run, MAP_LENGTH};
 use model::refusal::*;
 use model::rng::Rng;
 use model::run::{MOST_ITEMS, RUN_LENGTH};
 use model::{load, map, samples, sound, step, steps, write, Item, Record, Run};
-
-fn loaded(file: &[u8]) -> Vec<u8> {
-    let mut run = vec![170; RUN_LENGTH];
-    assert_eq!(load(file, &mut run), (DONE, 0));
-    run
-}
-
-fn poked(run: &[u8], offset: usize, bytes: &[u8]) -> Vec<u8> {
-    let mut run = run.to_vec();
-    run[offset..offset + bytes.len()].copy_from_slice(bytes);
-    run
-}
 
 #[test]
 fn runs_made_by_hand_are_sound_and_stay_so() {

@@ -1,21 +1,12 @@
 //! The settled readings of document 01, each by its number in the design.
 
+mod common;
+
+use common::{loaded, poked};
 use model::refusal::*;
 use model::run::{MOST_ITEMS, RUN_LENGTH};
 use model::samples::{self, CLASH, CLASH_PLACES};
 use model::{load, map, program, sound, statement, step, steps, write, Item, Rule, Run};
-
-fn loaded(file: &[u8]) -> Vec<u8> {
-    let mut run = vec![170; RUN_LENGTH];
-    assert_eq!(load(file, &mut run), (DONE, 0));
-    run
-}
-
-fn poked(run: &[u8], offset: usize, bytes: &[u8]) -> Vec<u8> {
-    let mut run = run.to_vec();
-    run[offset..offset + bytes.len()].copy_from_slice(bytes);
-    run
-}
 
 fn rules(file: &[u8], places: &[u32]) -> Vec<usize> {
     let mut run = Run::load(file).unwrap();
