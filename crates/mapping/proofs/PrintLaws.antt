@@ -7,8 +7,7 @@ use mathlib.Core.Option.{none, some}
 use Prim.Native.Nat.{ℕ, _≤_}
 use native.Mathlib.Omega.{arith}
 use borrow.Author.Tests.{eq-eqb, ne-eqb}
-use lib.ListN.{length, take}
-use lib.Seq.{length-take-le}
+use lib.ListN.{length}
 use mir.Syntax.{w8}
 use mir.Val.{Fits}
 use Rattle.paper.specs.Sizes.{mostUnknowns}
@@ -35,8 +34,8 @@ use Rattle.promises.specs.FromFiles.{Accepted, FromFile, HasClashed, NothingPen
 use Rattle.promises.specs.Sentences.{ProgramEnds}
 use Rattle.promises.proofs.Reaching.{Viewed, viewed, file-ok}
 use Rattle.promises.proofs.Sentences.{sentences}
-use Rattle.mapper.specs.Runs.{Ran}
-use Rattle.mapper.proofs.NotZero.{refusal-not-zero}
+use Rattle.mapping.specs.Runs.{Ran}
+use Rattle.mapping.proofs.NotZero.{refusal-not-zero}
 
 -- what loading an accepted file leaves
 record Loading (s : List ℕ) (k p : ℕ) (d : List ℕ) : Type 0 where
@@ -132,10 +131,6 @@ module _ (s : List ℕ) (k p : ℕ) (d : List ℕ) (ran : Ran s k p d) where
 
     pub run-printed : (o o′ : List ℕ) (n : ℕ) → PutFrom 0 (printedRun (tableOf d) (runOf d) (clashOf d)) o o′ n → PutFrom 0 (printed s) o o′ n
     run-printed o o′ n w = subst (λ (l : List ℕ). PutFrom 0 l o o′ n) (sym (ran .text z)) w
-
--- the printed part of a buffer
-pub prefix-long : (n : ℕ) (l : List ℕ) → length l ≡ 2048 → n ≤ 2048 → n ≡ length (take n l)
-prefix-long n l e h = sym (length-take-le n l (omega arith))
 
 -- a run at its end
 module _ (d : List ℕ) (long : length d ≡ runBytes) (sound : soundBytes d ≡ true) (over : AtEnd d)

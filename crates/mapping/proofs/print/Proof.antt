@@ -1,8 +1,8 @@
 -- `print` meets its contract: one law of what was made of the file for each way out.
-use Rattle.mapper.proofs.PrintLaws.{refused-printed, ran-sound, ran-over, run-printed}
+use Rattle.mapping.proofs.PrintLaws.{refused-printed, ran-sound, ran-over, run-printed}
 use borrow.Author.Needs.{needs}
-use Rattle.mapper.proofs.print.Statement.{statement}
-use Rattle.mapper.proofs.print.Tie as tie
+use Rattle.mapping.proofs.print.Statement.{statement}
+use Rattle.mapping.proofs.print.Tie as tie
 
 slice-aggregate-run-file : tie.Need-slice-aggregate-run-file
 slice-aggregate-run-file c = search needs

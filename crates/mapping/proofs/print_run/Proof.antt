@@ -1,8 +1,8 @@
 -- `print_run` meets its contract: one law of a run at its end for each way out.
-use Rattle.mapper.proofs.PrintLaws.{clash-printed, unknowns-few, items-printed}
+use Rattle.mapping.proofs.PrintLaws.{clash-printed, unknowns-few, items-printed}
 use borrow.Author.Needs.{needs}
-use Rattle.mapper.proofs.print_run.Statement.{statement}
-use Rattle.mapper.proofs.print_run.Tie as tie
+use Rattle.mapping.proofs.print_run.Statement.{statement}
+use Rattle.mapping.proofs.print_run.Tie as tie
 
 clash-byte-requires : tie.Need-clash-byte-requires
 clash-byte-requires c κs = search needs

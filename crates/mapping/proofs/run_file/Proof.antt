@@ -1,8 +1,8 @@
 -- `run_file` meets its contract: one law of the run for each way out. Every element of the file is a byte.
-use Rattle.mapper.proofs.PrintLaws.{ran-refused, loaded-sound, ran-to-its-end}
+use Rattle.mapping.proofs.PrintLaws.{ran-refused, loaded-sound, ran-to-its-end}
 use borrow.Author.Needs.{needs}
-use Rattle.mapper.proofs.run_file.Statement.{statement}
-use Rattle.mapper.proofs.run_file.Tie as tie
+use Rattle.mapping.proofs.run_file.Statement.{statement}
+use Rattle.mapping.proofs.run_file.Tie as tie
 
 load-requires : tie.Need-load-requires
 load-requires c κs = search needs

@@ -1,0 +1,237 @@
+// One function for each kind of call; each gives the line that it prints.
+use super::reading;
+ghost use Prim.Native.Nat.{_≤_, _<_};
+ghost use lib.ListN.{length};
+ghost use mathlib.Core.Path.{_≡_};
+ghost use Rattle.sheets.specs.Spaces.{runSpace, mapSpace, fileSpace, listSpace};
+
+// One byte more than a call takes: so that a sheet can lend too many, too.
+pub const RUN_SPACE: usize = 59753;
+
+pub const MAP_SPACE: usize = 353;
+
+pub const FILE_SPACE: usize = 837;
+
+// The longest list of places.
+const LIST_SPACE: usize = 16384;
+
+// A printed line.
+pub struct Line {
+    pub number: u64,
+    pub value: u64,
+    pub hash: u64,
+}
+
+// Load: how much of the run is lent (2), the file.
+fn load(bytes: &[u8], run: &mut [u8]) -> Line
+    requires { ⌜ length (now run) ≡ runSpace ⌝ }
+{
+    let n = reading::at_most(reading::two(bytes, 0), RUN_SPACE);
+    let reply = sceolandra::sc_load(reading::piece(bytes, 2, bytes.len()), &mut run[0..n]);
+    Line {
+        number: reply.number as u64,
+        value: reply.position as u64,
+        hash: reading::hash(run),
+    }
+}
+
+// Statement: n (2), the file. The part of the file that it gives is hashed.
+fn statement(bytes: &[u8]) -> Line {
+    let n = reading::two(bytes, 0);
+    let file = reading::piece(bytes, 2, bytes.len());
+    let span = sceolandra::sc_statement(file, n);
+    Line {
+        number: span.start as u64,
+        value: span.size as u64,
+        hash: reading::hash(statements::statement(file, n)),
+    }
+}
+
+// Step: how much of the run is lent (2), the place (2).
+fn step(bytes: &[u8], run: &mut [u8]) -> Line
+    requires { ⌜ length (now run) ≡ runSpace ⌝ }
+{
+    let n = reading::at_most(reading::two(bytes, 0), RUN_SPACE);
+    let reply = sceolandra::sc_step(&mut run[0..n], reading::two(bytes, 2));
+    Line {
+        number: reply.number as u64,
+        value: reply.rule as u64,
+        hash: reading::hash(run),
+    }
+}
+
+// The places of a list, two bytes each from byte 2 on, into `places`; gives their count.
+fn read_places(bytes: &[u8], places: &mut [u32]) -> usize
+    requires { ⌜ length (now places) ≡ listSpace ⌝ }
+    ensures { λ r. ⌜ r ≤ listSpace ⌝ }
+{
+    let mut at = 2;
+    let mut i = 0;
+    while i < LIST_SPACE && at < bytes.len() {
+        places[i] = reading::two(bytes, at) as u32;
+        at += 2;
+        i += 1;
+    }
+    i
+}
+
+// List: how much of the run is lent (2), the places (2 each).
+fn steps(bytes: &[u8], run: &mut [u8]) -> Line
+    requires { ⌜ length (now run) ≡ runSpace ⌝ }
+{
+    let n = reading::at_most(reading::two(bytes, 0), RUN_SPACE);
+    let mut places = [0u32; LIST_SPACE];
+    let count = read_places(bytes, &mut places);
+    let reply = sceolandra::sc_steps(&mut run[0..n], &places[0..count]);
+    Line {
+        number: reply.number as u64,
+        value: reply.done as u64,
+        hash: reading::hash(run),
+    }
+}
+
+// Map: how much of the run is lent (2), how much of the map (2).
+fn make_map(bytes: &[u8], run: &[u8], map: &mut [u8]) -> Line
+    requires { ⌜ (length (now run) ≡ runSpace) × (length (now map) ≡ mapSpace) ⌝ }
+{
+    let n = reading::at_most(reading::two(bytes, 0), RUN_SPACE);
+    let k = reading::at_most(reading::two(bytes, 2), MAP_SPACE);
+    let reply = sceolandra::sc_map(&run[0..n], &mut map[0..k]);
+    Line {
+        number: reply.number as u64,
+        value: 0,
+        hash: reading::hash(map),
+    }
+}
+
+// Write: how much of the run is lent (2), how much of the file (2).
+fn write(bytes: &[u8], run: &[u8], file: &mut [u8]) -> Line
+    requires { ⌜ (length (now run) ≡ runSpace) × (length (now file) ≡ fileSpace) ⌝ }
+{
+    let n = reading::at_most(reading::two(bytes, 0), RUN_SPACE);
+    let k = reading::at_most(reading::two(bytes, 2), FILE_SPACE);
+    let reply = sceolandra::sc_write(&run[0..n], &mut file[0..k]);
+    Line {
+        number: reply.number as u64,
+        value: reply.length as u64,
+        hash: reading::hash(file),
+    }
+}
+
+// The line of what is no call: the run's hash alone.
+fn hashed(run: &[u8]) -> Line {
+    Line {
+        number: 0,
+        value: 0,
+        hash: reading::hash(run),
+    }
+}
+
+// One byte of the run, if there is such a byte.
+fn set(run: &mut [u8], at: usize, v: u8) {
+    if at >= run.len() {
+        return;
+    }
+    run[at] = v;
+}
+
+// `count` bytes of the run from `at` on: the pattern over and over.
+fn lay(pattern: &[u8], run: &mut [u8], at: usize, count: usize)
+    requires { ⌜ (0 < length (now pattern)) × (at < 65536) × (count < 65536) ⌝ }
+{
+    let mut i = 0;
+    while i < count {
+        set(run, at + i, reading::byte(pattern, i % pattern.len()));
+        i += 1;
+    }
+}
+
+// Poke: where (2), how many bytes of the run are laid (2), the pattern.
+fn poke(bytes: &[u8], run: &mut [u8]) -> Line {
+    let at = reading::two(bytes, 0);
+    let count = reading::two(bytes, 2);
+    let pattern = reading::piece(bytes, 4, bytes.len());
+    if pattern.len() == 0 {
+        return hashed(run);
+    }
+    lay(pattern, run, at, count);
+    hashed(run)
+}
+
+// Fill: the byte that every lent byte has from now on.
+fn fill(bytes: &[u8], run: &mut [u8], map: &mut [u8], file: &mut [u8]) -> Line {
+    let v = reading::byte(bytes, 0);
+    layout::fill(run, 0, run.len(), v);
+    layout::fill(map, 0, map.len(), v);
+    layout::fill(file, 0, file.len(), v);
+    hashed(run)
+}
+
+// Loads the first n bytes of a file whose byte `at` is v. A run is hashed only if the file is accepted.
+fn load_changed(file: &mut [u8], n: usize, at: usize, v: u8, run: &mut [u8]) -> Line
+    requires { ⌜ (n ≤ length (now file)) × (at < length (now file)) × (length (now run) ≡ runSpace) ⌝ }
+{
+    file[at] = v;
+    let reply = sceolandra::sc_load(&file[0..n], &mut run[0..layout::RUN_BYTES]);
+    let number = reply.number;
+    let mut hash = 0;
+    if number == 0 {
+        hash = reading::hash(run);
+    }
+    Line {
+        number: number as u64,
+        value: reply.position as u64,
+        hash,
+    }
+}
+
+// Damage: where (2), a file. The file is loaded with each of 256 values at that byte; the replies are hashed, and the runs are.
+fn damage(bytes: &[u8], run: &mut [u8], file: &mut [u8]) -> Line
+    requires { ⌜ (length (now run) ≡ runSpace) × (length (now file) ≡ fileSpace) ⌝ }
+{
+    let at = reading::two(bytes, 0);
+    let n = reading::copy(reading::piece(bytes, 2, bytes.len()), file);
+    let mut replies = 1;
+    let mut runs = 1;
+    let mut v: usize = 0;
+    while v < 256 && at < FILE_SPACE {
+        let line = load_changed(file, n, at, v as u8, run);
+        replies = reading::fold(reading::fold(replies, line.number), line.value);
+        runs = reading::fold(runs, line.hash);
+        v += 1;
+    }
+    Line {
+        number: n as u64,
+        value: replies,
+        hash: runs,
+    }
+}
+
+// Print: a file. What the map program prints of it comes before the line.
+fn print(bytes: &[u8]) -> Line {
+    mapping::print_file(bytes);
+    Line {
+        number: bytes.len() as u64,
+        value: 0,
+        hash: reading::hash(bytes),
+    }
+}
+
+// Makes one call, by its kind; for a kind that there is not, the run's hash alone.
+pub fn make(kind: u8, bytes: &[u8], run: &mut [u8], map: &mut [u8], file: &mut [u8]) -> Line
+    requires { ⌜ (length (now run) ≡ runSpace) × (length (now map) ≡ mapSpace) × (length (now file) ≡ fileSpace) ⌝ }
+{
+    match kind {
+        1 => load(bytes, run),
+        2 => statement(bytes),
+        3 => step(bytes, run),
+        4 => steps(bytes, run),
+        5 => make_map(bytes, run, map),
+        6 => write(bytes, run, file),
+        7 => poke(bytes, run),
+        8 => fill(bytes, run, map, file),
+        9 => damage(bytes, run, file),
+        10 => print(bytes),
+        _ => hashed(run),
+    }
+}
