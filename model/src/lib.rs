@@ -13,8 +13,9 @@ pub mod refusal;
 pub mod rng;
 pub mod run;
 pub mod samples;
+pub mod sheets;
 pub mod step;
-pub mod vectors;
+pub mod stored;
 
 pub use file::{statement, Fault, File, Record, Statement};
 pub use map::map;

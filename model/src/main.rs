@@ -1,12 +1,18 @@
-//! Prints what the model expects: the map program's output for a file, or a set of vectors.
+//! Prints the map program's output for a file, or writes what the program crates are held to.
 
 use std::io::{self, Write};
+use std::path::Path;
 use std::process::ExitCode;
 
 fn main() -> ExitCode {
     let arguments: Vec<String> = std::env::args().skip(1).collect();
     let words: Vec<&str> = arguments.iter().map(String::as_str).collect();
-    match expected(&words).and_then(|text| put(&text)) {
+    let done = match words[..] {
+        ["print", path] => print(path),
+        ["store", crates] => store(Path::new(crates)),
+        _ => Err("usage: model print FILE | model store CRATES".to_string()),
+    };
+    match done {
         Ok(()) => ExitCode::SUCCESS,
         Err(message) => {
             eprintln!("{message}");
@@ -15,20 +21,19 @@ fn main() -> ExitCode {
     }
 }
 
-/// The text asked for, or what is wrong with the question.
-fn expected(words: &[&str]) -> Result<String, String> {
-    let usage =
-        || format!("usage: model print FILE | model vectors NAME, NAME one of {}", model::vectors::SETS.join(" "));
-    match words {
-        ["print", path] => match std::fs::read(path) {
-            Ok(input) => Ok(model::program::output(&input)),
-            Err(error) => Err(format!("{path}: {error}")),
-        },
-        ["vectors", name] => model::vectors::set(name).ok_or_else(usage),
-        _ => Err(usage()),
-    }
+/// What the map program prints of a file.
+fn print(path: &str) -> Result<(), String> {
+    let input = std::fs::read(path).map_err(|error| format!("{path}: {error}"))?;
+    io::stdout().write_all(model::program::output(&input).as_bytes()).map_err(|error| error.to_string())
 }
 
-fn put(text: &str) -> Result<(), String> {
-    io::stdout().write_all(text.as_bytes()).map_err(|error| error.to_string())
+/// Writes `stdin` and `stdout` of each program crate.
+fn store(crates: &Path) -> Result<(), String> {
+    for stored in model::stored::all() {
+        for (file, bytes) in [("stdin", &stored.stdin[..]), ("stdout", stored.stdout.as_bytes())] {
+            let path = crates.join(stored.name).join(file);
+            std::fs::write(&path, bytes).map_err(|error| format!("{}: {error}", path.display()))?;
+        }
+    }
+    Ok(())
 }

@@ -207,6 +207,36 @@ fn damage(bytes: &[u8], run: &mut [u8], file: &mut [u8]) -> Line
     }
 }
 
+// The number that an empty list of steps gets: 0 if the run is sound.
+fn tested(run: &mut [u8]) -> u64
+    requires { ⌜ length (now run) ≡ runSpace ⌝ }
+{
+    let none = [0u32; 1];
+    let reply = sceolandra::sc_steps(&mut run[0..layout::RUN_BYTES], &none[0..0]);
+    reply.number as u64
+}
+
+// Sweep: where (2). The run is tested with each of 256 values at that byte, and is as before at the end; the numbers are hashed.
+fn sweep(bytes: &[u8], run: &mut [u8]) -> Line
+    requires { ⌜ length (now run) ≡ runSpace ⌝ }
+{
+    let at = reading::two(bytes, 0);
+    let before = reading::byte(run, at);
+    let mut numbers = 1;
+    let mut v: usize = 0;
+    while v < 256 {
+        set(run, at, v as u8);
+        numbers = reading::fold(numbers, tested(run));
+        v += 1;
+    }
+    set(run, at, before);
+    Line {
+        number: 0,
+        value: numbers,
+        hash: reading::hash(run),
+    }
+}
+
 // Print: a file. What the map program prints of it comes before the line.
 fn print(bytes: &[u8]) -> Line {
     mapping::print_file(bytes);
@@ -231,7 +261,8 @@ pub fn make(kind: u8, bytes: &[u8], run: &mut [u8], map: &mut [u8], file: &mut [
         7 => poke(bytes, run),
         8 => fill(bytes, run, map, file),
         9 => damage(bytes, run, file),
-        10 => print(bytes),
+        10 => sweep(bytes, run),
+        11 => print(bytes),
         _ => hashed(run),
     }
 }

@@ -1,0 +1,4 @@
+// Document 01's bench sheet, as calls.
+fn main() {
+    sheets::run_sheet();
+}

@@ -1,0 +1,4 @@
+// Files loaded, refused, damaged and written, as calls.
+fn main() {
+    sheets::run_sheet();
+}

@@ -1,0 +1,4 @@
+// Maps, as calls.
+fn main() {
+    sheets::run_sheet();
+}

@@ -1,0 +1,4 @@
+// Steps and lists, as calls.
+fn main() {
+    sheets::run_sheet();
+}
