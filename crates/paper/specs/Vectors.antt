@@ -197,6 +197,7 @@ replySheet =
     ∷ (replied (checked true true (reply 14 2)) gives 14 ∷ 2 ∷ [])
     ∷ (replied (loadReply false (readFile (0x01 ∷ 0x21 ∷ 0x00 ∷ 0x00 ∷ []))) gives 12 ∷ 0 ∷ [])
     ∷ (replied (loadReply true (readFile (0x01 ∷ 0x21 ∷ 0x00 ∷ 0x00 ∷ []))) gives 4 ∷ 1 ∷ [])
+    ∷ (replied (loadReply true (readFile (0x01 ∷ 0x20 ∷ 0x00 ∷ 0x00 ∷ []))) gives 0 ∷ 0 ∷ [])
     ∷ (replied (loadReply false (readFile emptyFile)) gives 12 ∷ 0 ∷ [])
     ∷ (replied (loadReply true (readFile emptyFile)) gives 0 ∷ 0 ∷ [])
     ∷ (replied (stepReply (step clashTable (clashRun []) 0)) gives 0 ∷ 7 ∷ [])

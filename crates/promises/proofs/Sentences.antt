@@ -370,6 +370,8 @@ same-print s s′ f f′ a a′ items said =
 pub sentences : Sentences
 sentences =
     record {
+      run-length = refl;
+      map-length = (refl, refl);
       longest = λ s f a. no-longer s (all-bytes s (a .bytes)) f (a .end) (a .read);
       writer-accepts = writer-accepts;
       loading-decides-nothing = loading-decides-nothing;

@@ -5,7 +5,7 @@ use mathlib.Core.Logic.{_≢_}
 use mathlib.Core.Bool.{true}
 use mathlib.Core.List.{List, _++_}
 use mathlib.Core.Option.{none, some}
-use Prim.Native.Nat.{ℕ, suc, _+_, _≤_, _<_}
+use Prim.Native.Nat.{ℕ, suc, _+_, _*_, _≤_, _<_}
 use lib.Dec.{eqb}
 use lib.ListN.{length}
 use Rattle.base.specs.Choice.{pick}
@@ -18,7 +18,7 @@ use Rattle.paper.specs.SameStatements.{SameItems, SameSet}
 use Rattle.paper.specs.Programs.{printedRun, printed}
 use Rattle.paper.specs.declared.Item.{Item}
 use Rattle.paper.specs.declared.Item.the-variants.{Statement as statement, Ask as ask, News as news}
-use Rattle.layout.specs.Offsets.{clashAt, runBytes}
+use Rattle.layout.specs.Offsets.{clashAt, runBytes, mapBytes}
 use Rattle.layout.specs.Fields.{byteAt, countOf, clashOf, ownerOf, markOf, pairOf, itemAt, itemsFrom, tableOf, runOf}
 use Rattle.layout.specs.Soundness.{soundBytes}
 use Rattle.statements.specs.Loads.{loadedBytes}
@@ -94,6 +94,10 @@ pub record ProgramEnds (s : List ℕ) (f : File) : Type 0 where
   pub over : AtEnd (drawnBytes (loadedBytes f))
 
 pub record Sentences : Type 0 where
+  -- "The run's 59,752 bytes"
+  pub run-length : runBytes ≡ 59752
+  -- "The map is 352 bytes: 32 rows of 11."
+  pub map-length : (mapBytes ≡ 352) × (mapBytes ≡ 32 * 11)
   -- "The longest is 836 bytes."
   pub longest : (s : List ℕ) (f : File) → Accepted s f → length s ≤ 836
   -- "The writer accepts a run only as loading some file leaves it"
