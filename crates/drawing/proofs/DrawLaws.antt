@@ -18,7 +18,8 @@ use Rattle.layout.specs.Fields.{byteAt, countOf, itemAt}
 use Rattle.layout.specs.Changes.{removedAt, appendedAll}
 use Rattle.layout.specs.Soundness.{soundBytes}
 use Rattle.layout.proofs.SoundViews.{Bytes}
-use Rattle.rules.specs.Plans.{Plan, wait, plan, applied, planOf}
+use Rattle.effects.specs.Changes.{applied}
+use Rattle.rules.specs.Plans.{Plan, wait, plan, planOf}
 use Rattle.rules.specs.Bytes.{Out, out, performedBytes, takenBytes}
 use Rattle.rules.proofs.Bridge.{Ready, ready-sound}
 use Rattle.rules.proofs.CallLaws.{sound-ready, ready-next}

@@ -31,7 +31,8 @@ use Rattle.statements.specs.Loads.{loadedBytes}
 use Rattle.statements.specs.Writes.{Answer, answer, loadedRead, loadBytes}
 use Rattle.statements.proofs.Loaded.{LoadedAs, loaded-as}
 use Rattle.layout.specs.Changes.{removedAt, appendedAll}
-use Rattle.rules.specs.Plans.{Plan, wait, plan, applied, planOf}
+use Rattle.effects.specs.Changes.{applied}
+use Rattle.rules.specs.Plans.{Plan, wait, plan, planOf}
 use Rattle.rules.specs.Bytes.{Out, out, performedBytes, takenBytes, stepBytes, onwardBytes, allTaken}
 use Rattle.rules.proofs.Bridge.{Ready, ready-sound, outcomeOf, bridge, Left, bytesOf, taken-left}
 use Rattle.promises.specs.FromFiles.{Bytes, Accepted, FromFile, loaded, stepped, HasClashed, NothingPending, AtEnd}

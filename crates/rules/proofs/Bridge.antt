@@ -1,11 +1,11 @@
 -- The bridge: a step on the bytes of a sound run is the paper's step of its view, with the same reply, and keeps the bytes sound.
-use mathlib.Core.Path.{_≡_, refl, sym, subst, ap, ap₂, _∙_}
+use mathlib.Core.Path.{_≡_, refl, sym, subst, ap, _∙_}
 use mathlib.Core.Bool.{Bool, true, false}
-use mathlib.Core.List.{List, [], _∷_, _++_}
-use mathlib.Core.Option.{Option, none, some}
+use mathlib.Core.List.{List, _++_}
+use mathlib.Core.Option.{none, some}
 use Prim.Native.Nat.{ℕ, zero, suc, _+_, _-_, _≤_, _<_}
 use native.Mathlib.Omega.{arith}
-use borrow.Author.Tests.{ltb-true, ltb-false, leb-true, leb-false}
+use borrow.Author.Tests.{ltb-true, ltb-false, leb-true}
 use lib.Dec.{ltb, leb, eqb}
 use lib.ListN.{length, getElem?, length-append}
 use Rattle.base.specs.Choice.{pick}
@@ -13,24 +13,25 @@ use Rattle.base.specs.Lists.{without}
 use Rattle.base.proofs.Elements.{length-without, no-place}
 use Rattle.base.proofs.Froms.{from-length, from-place}
 use Rattle.paper.specs.Sizes.{room}
-use Rattle.paper.specs.Refusals.{noSuchPlace, stillWaits, hasClashed, noRoom}
+use Rattle.paper.specs.Refusals.{noSuchPlace, hasClashed, noRoom}
 use Rattle.paper.specs.Tables.{Table}
-use Rattle.paper.specs.Runs.{State, Run, ItemOk, Sound}
-use Rattle.paper.specs.Rules.{Rule, after}
-use Rattle.paper.specs.Steps.{effect, Effect, takes, Outcome, refused, done, performed, step}
+use Rattle.paper.specs.Runs.{Run, ItemOk, Sound}
+use Rattle.paper.specs.Rules.{after}
+use Rattle.paper.specs.Steps.{effect, takes, Outcome, refused, done, performed, step}
 use Rattle.paper.specs.declared.Item.{Item}
 use Rattle.paper.proofs.StepIsRule.{Ordered, rule-effect, waiting-effect, step-at}
 use Rattle.paper.proofs.Soundness.{soundness-kept, item-ok}
-use Rattle.layout.specs.Offsets.{clashAt, clashCabinetAt, runBytes}
-use Rattle.layout.specs.Fields.{byteAt, countOf, itemAt, itemsFrom, clashOf, tableOf, stateOf, runOf}
+use Rattle.layout.specs.Offsets.{clashAt, clashCabinetAt}
+use Rattle.layout.specs.Fields.{byteAt, countOf, itemAt, tableOf, stateOf, runOf}
 use Rattle.layout.specs.Soundness.{soundBytes}
 use Rattle.layout.specs.Changes.{removedAt, appendedAll}
 use Rattle.layout.proofs.Frames.{Shaped}
-use Rattle.layout.proofs.Views.{Changed, pendingNow, stateNow, removed-shaped, removed-count, removed-table, removed-run, Appended, appended-all}
+use Rattle.layout.proofs.Views.{Changed, pendingNow, removed-shaped, removed-count, removed-table, removed-run, Appended, appended-all}
 use Rattle.layout.proofs.Canonical.{Canonical}
 use Rattle.layout.proofs.CanonicalKept.{removed-canonical, appended-all-canonical}
 use Rattle.layout.proofs.SoundViews.{bytes-sound}
-use Rattle.rules.specs.Plans.{Change, applied, Plan, wait, plan, planOf}
+use Rattle.effects.specs.Changes.{Change, applied}
+use Rattle.rules.specs.Plans.{Plan, wait, plan, planOf}
 use Rattle.rules.specs.Bytes.{Out, out, performedBytes, takenBytes}
 use Rattle.rules.proofs.Planned.{stateAfter, ChangeOk, applied-changed, applied-canonical, Planned, waits, goes, planned, ordered}
 

@@ -17,12 +17,16 @@ use Rattle.layout.specs.Offsets.{unknownsAt, memoFrom}
 use Rattle.layout.specs.Fields.{byteAt, symbolOf, partCountOf, partOf, partsFrom}
 use Rattle.layout.specs.Changes.{storeOf, removedAt, appendedAll}
 use Rattle.layout.specs.Given.{Reads, byteLimit}
-use Rattle.rules.specs.declared.Choice.{Choice}
-use Rattle.rules.specs.declared.Choice.the-variants.{Waits, Interchange, Memo, Dereference, Identify, Conflict, Decompose, Initiate}
-use Rattle.rules.specs.Plans.{lessIn, choiceByMark, choiceByRecords, choiceOf, nothing, mark, pair, clash, applied, partsOf, planOfChoice}
+use Rattle.choices.specs.declared.Choice.{Choice}
+use Rattle.choices.specs.declared.Choice.the-variants.{Waits, Interchange, Memo, Dereference, Identify, Conflict, Decompose, Initiate}
+use Rattle.choices.specs.Choices.{lessIn, choiceByMark, choiceByRecords, choiceOf}
+use Rattle.choices.specs.Given.{StatementIn}
+use Rattle.choices.proofs.ChoiceLaws.{greater-unknown, level-record}
+use Rattle.effects.specs.Changes.{nothing, mark, pair, clash, applied}
+use Rattle.effects.specs.Given.{Fits}
+use Rattle.rules.specs.Plans.{partsOf, planOfChoice}
 use Rattle.rules.specs.Bytes.{out}
-use Rattle.rules.specs.Given.{StatementIn, Fits, productCount, carriedBytes}
-use Rattle.rules.proofs.ChoiceLaws.{greater-unknown, level-record}
+use Rattle.rules.specs.Given.{productCount, carriedBytes}
 
 -- what a choice says of the sides a and b
 abbrev Sides : List ℕ → ℕ → ℕ → Choice → Type 0

@@ -1,7 +1,5 @@
 pub mod Planned
 pub mod Bridge
-pub mod ChoiceLaws
-pub mod EffectLaws
 pub mod CarryLaws
 pub mod TakeLaws
 pub mod SoundItems

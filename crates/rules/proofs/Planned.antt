@@ -1,73 +1,73 @@
 -- What an item does, read off the bytes of a sound run, is one published rule of the paper's run; or it waits.
 use mathlib.Core.Path.{_≡_, refl, sym, subst, ap, ap₂, _∙_}
-use mathlib.Core.Logic.{_⊎_, inl, inr, ⊎-elim}
-use mathlib.Core.Bool.{Bool, true, false, _&&_, _||_}
+use mathlib.Core.Logic.{inl}
+use mathlib.Core.Bool.{Bool, true, false, _&&_}
 use mathlib.Core.List.{List, [], _∷_}
 use mathlib.Core.Option.{Option, none, some}
-use Prim.Native.Nat.{ℕ, zero, suc, _+_, _-_, _*_, _≤_, _<_}
+use Prim.Native.Nat.{ℕ, _+_, _-_, _≤_, _<_}
 use native.Mathlib.Omega.{arith}
-use borrow.Author.Tests.{ltb-true, ltb-false, lt-ltb, le-ltb, eq-eqb, ne-eqb, eqb-true, eqb-false}
-use lib.Dec.{ltb, leb, eqb}
-use lib.ListN.{length, getD}
+use borrow.Author.Tests.{ltb-true, lt-ltb, le-ltb, ne-eqb}
+use lib.Dec.{ltb, eqb}
+use lib.ListN.{getD}
 use Rattle.base.specs.Choice.{pick}
-use Rattle.base.specs.Lists.{listFrom}
-use Rattle.base.specs.Regions.{get}
 use Rattle.base.proofs.Tests.{fst-true, snd-true, and-true, not-both}
-use Rattle.base.proofs.Froms.{from-length, from-getD}
 use Rattle.base.proofs.Regions.{get-at}
-use Rattle.paper.specs.Sizes.{mostCabinets, mostUnknowns, mostRecords, room}
-use Rattle.paper.specs.Tables.{Record, Table, entries, isUnknown, isRecord, noRecord, recordAt, less, sameHead}
-use Rattle.paper.specs.Runs.{Mark, nothing, initiated, entry, State, Run, ItemOk, StateOk, Sound}
+use Rattle.paper.specs.Sizes.{mostCabinets, mostUnknowns}
+use Rattle.paper.specs.Tables.{Record, Table, entries, recordAt, less, sameHead}
+use Rattle.paper.specs.Runs.{Mark, nothing, initiated, entry, State, ItemOk, Sound}
 use Rattle.paper.specs.Rules as rules
-use Rattle.paper.specs.Rules.{Waits, waiting, Rule, interchange, memo, dereference, identify, conflict, decompose, initiate, win, lose, arrive, Mem, add, newsTo, partStatements}
+use Rattle.paper.specs.Rules.{Waits, waiting, Rule, interchange, memo, dereference, identify, conflict, decompose, initiate, win, lose, arrive, Mem, newsTo, partStatements}
 use Rattle.paper.specs.declared.Item.{Item}
 use Rattle.paper.specs.declared.Item.the-variants.{Statement as statement, Ask as ask, News as news}
-use Rattle.paper.proofs.Ranks.{rank, Kind, unknown, recorded, kind, is-unknown, is-record, not-less-rank}
+use Rattle.paper.proofs.Ranks.{Kind, unknown, recorded, kind, is-unknown, is-record, not-less-rank}
 use Rattle.paper.proofs.StepIsRule.{Ordered, mem-greater}
 use Rattle.paper.proofs.Soundness.{less-unknown}
-use Rattle.layout.specs.Offsets.{cabinetsAt, unknownsAt, recordsAt, ownersAt, runBytes, storeFrom, memoFrom}
-use Rattle.layout.specs.Fields.{byteAt, symbolOf, partCountOf, partOf, recordOf, recordsFrom, ownerMark, storeMark, ownerOf, markOf, pairOf, tableOf, stateOf, runOf}
+use Rattle.layout.specs.Offsets.{unknownsAt, ownersAt, storeFrom, memoFrom}
+use Rattle.layout.specs.Fields.{byteAt, symbolOf, partCountOf, recordOf, ownerMark, storeMark, markOf, pairOf, tableOf, stateOf, runOf}
 use Rattle.layout.specs.Changes.{storeOf}
 use Rattle.layout.proofs.Frames.{Shaped}
+use Rattle.layout.proofs.SoundViews.{entries-are}
+use Rattle.layout.proofs.ViewedFields.{owner-byte, record-byte, head-byte}
 use Rattle.layout.proofs.Views.{Changed, owner-changed, pair-changed, mark-changed, clash-changed}
 use Rattle.layout.proofs.Canonical.{Canonical}
 use Rattle.layout.proofs.CanonicalKept.{owner-canonical, mark-canonical, pair-canonical, clash-canonical}
-use Rattle.rules.specs.declared.Choice.{Choice}
-use Rattle.rules.specs.declared.Choice.the-variants.{Waits as Waiting, Interchange, Memo, Dereference, Identify, Conflict, Decompose, Initiate}
-use Rattle.rules.specs.Plans.{choiceByMark, choiceByRecords, choiceOf, Change, applied, Plan, wait, plan, partsOf, planOfChoice, planOfAsk, planOf}
-use Rattle.rules.specs.Plans as plans
+use Rattle.choices.specs.declared.Choice.the-variants.{Waits as Waiting, Interchange, Memo, Dereference, Identify, Conflict, Decompose, Initiate}
+use Rattle.choices.specs.Choices.{choiceByMark, choiceByRecords, choiceOf}
+use Rattle.effects.specs.Changes.{Change, applied}
+use Rattle.effects.specs.Changes as changes
+use Rattle.rules.specs.Plans.{Plan, wait, plan, partsOf, planOfChoice, planOfAsk, planOf}
 
 -- the state after a change
 abbrev pub stateAfter : Change → State → State
-stateAfter plans.nothing σ = σ
-stateAfter (plans.mark c x m) σ = rules.withMark σ c x (storeMark m)
-stateAfter (plans.owner x u) σ = rules.withOwner σ x (ownerMark u)
-stateAfter (plans.pair c x y) σ = rules.withPair σ c x y
-stateAfter (plans.clash c) σ = rules.withClash σ c
+stateAfter changes.nothing σ = σ
+stateAfter (changes.mark c x m) σ = rules.withMark σ c x (storeMark m)
+stateAfter (changes.owner x u) σ = rules.withOwner σ x (ownerMark u)
+stateAfter (changes.pair c x y) σ = rules.withPair σ c x y
+stateAfter (changes.clash c) σ = rules.withClash σ c
 
 -- a change in range
 abbrev pub ChangeOk : Change → Type 0
-ChangeOk plans.nothing = Unit {0}
-ChangeOk (plans.mark c x m) = (c < mostCabinets) × (x < mostUnknowns)
-ChangeOk (plans.owner x u) = x < mostUnknowns
-ChangeOk (plans.pair c x y) = (c < mostCabinets) × (x < mostUnknowns) × (y < mostUnknowns)
-ChangeOk (plans.clash c) = Unit {0}
+ChangeOk changes.nothing = Unit {0}
+ChangeOk (changes.mark c x m) = (c < mostCabinets) × (x < mostUnknowns)
+ChangeOk (changes.owner x u) = x < mostUnknowns
+ChangeOk (changes.pair c x y) = (c < mostCabinets) × (x < mostUnknowns) × (y < mostUnknowns)
+ChangeOk (changes.clash c) = Unit {0}
 
 module _ (d : List ℕ) (s : Shaped d) where
   pub applied-changed : (ch : Change) → ChangeOk ch → Changed d (stateAfter ch (stateOf d)) (applied ch d)
   unfolding runOf
-  applied-changed plans.nothing h = record { shaped = s; table = refl; run = refl }
-  applied-changed (plans.mark c x m) h = mark-changed d s c x m (h .0) (h .1)
-  applied-changed (plans.owner x u) h = owner-changed d s x u h
-  applied-changed (plans.pair c x y) h = pair-changed d s c x y (h .0) (h .1) (h .2)
-  applied-changed (plans.clash c) h = clash-changed d s c
+  applied-changed changes.nothing h = record { shaped = s; table = refl; run = refl }
+  applied-changed (changes.mark c x m) h = mark-changed d s c x m (h .0) (h .1)
+  applied-changed (changes.owner x u) h = owner-changed d s x u h
+  applied-changed (changes.pair c x y) h = pair-changed d s c x y (h .0) (h .1) (h .2)
+  applied-changed (changes.clash c) h = clash-changed d s c
 
   pub applied-canonical : Canonical d → (ch : Change) → ChangeOk ch → Canonical (applied ch d)
-  applied-canonical z plans.nothing h = z
-  applied-canonical z (plans.mark c x m) h = mark-canonical d s z c x m (h .0) (h .1)
-  applied-canonical z (plans.owner x u) h = owner-canonical d s z x u h
-  applied-canonical z (plans.pair c x y) h = pair-canonical d s z c x y (h .0) (h .1) (h .2)
-  applied-canonical z (plans.clash c) h = clash-canonical d s z c
+  applied-canonical z changes.nothing h = z
+  applied-canonical z (changes.mark c x m) h = mark-canonical d s z c x m (h .0) (h .1)
+  applied-canonical z (changes.owner x u) h = owner-canonical d s z x u h
+  applied-canonical z (changes.pair c x y) h = pair-canonical d s z c x y (h .0) (h .1) (h .2)
+  applied-canonical z (changes.clash c) h = clash-canonical d s z c
 
 -- an entry is no mark of nothing or initiated
 small-mark : (u : ℕ) → u < 254 → storeMark u ≡ entry u
@@ -121,24 +121,6 @@ module _ (d : List ℕ) (sh : Shaped d) (sound : Sound (tableOf d) (runOf d)) wh
   unfolding stateOf pairOf
   pair-byte c x y hc hx hy = rw (lt-ltb c mostCabinets hc, lt-ltb x mostUnknowns hx, lt-ltb y mostUnknowns hy)
 
-  owner-byte : (x : ℕ) → x < mostUnknowns → σ .owner x ≡ ownerMark (byteAt d (ownersAt + x))
-  unfolding stateOf ownerOf
-  owner-byte x hx = rw (lt-ltb x mostUnknowns hx)
-
-  record-byte : (a : ℕ) → v ≤ a → a < entries t → recordAt t a ≡ recordOf d (a - v)
-  unfolding tableOf
-  record-byte a h l =
-      let n : length (recordsFrom d (byteAt d recordsAt) 0) ≡ byteAt d recordsAt = from-length (recordOf d) (byteAt d recordsAt) 0 in
-      from-getD (recordOf d) (byteAt d recordsAt) 0 (a - v) noRecord (omega arith) ∙ ap (recordOf d) (zero-plus (a - v))
-    where
-      zero-plus : (n : ℕ) → 0 + n ≡ n
-      zero-plus n = omega arith
-
-  head-byte : (i k : ℕ) → sameHead (recordOf d i) (recordOf d k) ≡ (eqb (symbolOf d i) (symbolOf d k) && eqb (partCountOf d i) (partCountOf d k))
-  unfolding recordOf
-  head-byte i k =
-      rw (from-length (partOf d i) (partCountOf d i) 0, from-length (partOf d k) (partCountOf d k) 0)
-
   -- a statement x = u, u less, by the mark
   by-mark : (c x u : ℕ) → c < mostCabinets → less t u x ≡ true → Planned d (statement c x u) (planOfChoice d c x u (choiceByMark v d c x u (getD (storeOf c d) x 0)))
   unfolding tableOf
@@ -162,11 +144,11 @@ module _ (d : List ℕ) (sh : Shaped d) (sound : Sound (tableOf d) (runOf d)) wh
           let hu : u < mostUnknowns = few-unknowns (ltb-true u v w) in
           not-both met (and-true (ltb u v) (eqb (byteAt d (memoFrom c x u)) 1) w (sym (pair-byte c x u hc hx hu) ∙ snd-true (ltb u v) (σ .memo c x u) g)) e
 
-      added : (b : Bool) → ltb u v ≡ b → stateAfter (pick b (plans.pair c x u) plans.nothing) σ ≡ pick b (rules.withPair σ c x u) σ
+      added : (b : Bool) → ltb u v ≡ b → stateAfter (pick b (changes.pair c x u) changes.nothing) σ ≡ pick b (rules.withPair σ c x u) σ
       added true e = refl
       added false e = refl
 
-      added-ok : (b : Bool) → ltb u v ≡ b → ChangeOk (pick b (plans.pair c x u) plans.nothing)
+      added-ok : (b : Bool) → ltb u v ≡ b → ChangeOk (pick b (changes.pair c x u) changes.nothing)
       added-ok true e = (hc, hx, few-unknowns (ltb-true u v e))
       added-ok false e = tt
 
@@ -182,7 +164,7 @@ module _ (d : List ℕ) (sh : Shaped d) (sound : Sound (tableOf d) (runOf d)) wh
         where
           marked : (p : Bool) → eqb m 255 ≡ p → (q : Bool) → eqb m 254 ≡ q → σ .store c x ≡ pick p nothing (pick q initiated (entry m))
               → Planned d (statement c x u) (planOfChoice d c x u (pick p Initiate (pick q Waiting (pick met Memo (Dereference m)))))
-          marked true f q g e′ = goes {ch = plans.mark c x 254} (initiate l e′) (hc, hx)
+          marked true f q g e′ = goes {ch = changes.mark c x 254} (initiate l e′) (hc, hx)
           marked false f true g e′ = waits (waiting l e′)
           marked false f false g e′ = by-memo m e′ met refl
 
@@ -192,13 +174,13 @@ module _ (d : List ℕ) (sh : Shaped d) (sound : Sound (tableOf d) (runOf d)) wh
   by-records c a b ha hb la lb = go (eqb (symbolOf d (a - v)) (symbolOf d (b - v)) && eqb (partCountOf d (a - v)) (partCountOf d (b - v))) refl
     where
       ea : recordAt t a ≡ recordOf d (a - v)
-      ea = record-byte a ha la
+      ea = record-byte d a ha (omega (arith, entries-are d))
 
       eb : recordAt t b ≡ recordOf d (b - v)
-      eb = record-byte b hb lb
+      eb = record-byte d b hb (omega (arith, entries-are d))
 
       head : sameHead (recordAt t a) (recordAt t b) ≡ (eqb (symbolOf d (a - v)) (symbolOf d (b - v)) && eqb (partCountOf d (a - v)) (partCountOf d (b - v)))
-      head = ap₂ sameHead ea eb ∙ head-byte (a - v) (b - v)
+      head = ap₂ sameHead ea eb ∙ head-byte d (a - v) (b - v)
 
       go : (p : Bool) → (eqb (symbolOf d (a - v)) (symbolOf d (b - v)) && eqb (partCountOf d (a - v)) (partCountOf d (b - v))) ≡ p
           → Planned d (statement c a b) (planOfChoice d c a b (pick p Decompose Conflict))
@@ -230,8 +212,8 @@ module _ (d : List ℕ) (sh : Shaped d) (sound : Sound (tableOf d) (runOf d)) wh
       go false e false e′ = level e e′ (kind t a) (kind t b)
 
   by-ask : (c x u : ℕ) → ItemOk t (ask c x u) → Planned d (ask c x u) (planOfAsk d x u (byteAt d (ownersAt + x)))
-  unfolding tableOf
-  by-ask c x u i = go (byteAt d (ownersAt + x)) (eqb (byteAt d (ownersAt + x)) 255) refl (owner-byte x hx)
+  unfolding tableOf stateOf
+  by-ask c x u i = go (byteAt d (ownersAt + x)) (eqb (byteAt d (ownersAt + x)) 255) refl (owner-byte d x hx)
     where
       hx : x < mostUnknowns
       hx = few-unknowns (less-unknown t u x (i .1 .is))
@@ -253,5 +235,5 @@ module _ (d : List ℕ) (sh : Shaped d) (sound : Sound (tableOf d) (runOf d)) wh
   planned (statement c a b) i = by-statement c a b i
   planned (ask c x u) i = by-ask c x u i
   planned (news c x u) i =
-      goes {ch = plans.mark c x u} (subst (λ (m : Mark). Rule t 10 (news c x u) σ [] (rules.withMark σ c x m)) (sym (small-mark u (few-entries (i .1 .entry)))) arrive)
+      goes {ch = changes.mark c x u} (subst (λ (m : Mark). Rule t 10 (news c x u) σ [] (rules.withMark σ c x m)) (sym (small-mark u (few-entries (i .1 .entry)))) arrive)
       (few-cabinets (i .0), few-unknowns (less-unknown t u x (i .1 .is)))

@@ -17,7 +17,8 @@ use Rattle.layout.specs.Offsets.{cabinetsAt, unknownsAt, recordsAt, runBytes, i
 use Rattle.layout.specs.Fields.{byteAt, countOf, itemOfBytes, itemAt}
 use Rattle.layout.specs.Soundness.{lesser, itemOk, placeOk, itemsOk, soundBytes}
 use Rattle.layout.proofs.SoundViews.{InRange, tested, in-range, shaped}
-use Rattle.rules.specs.Given.{StatementIn, Fits}
+use Rattle.choices.specs.Given.{StatementIn}
+use Rattle.effects.specs.Given.{Fits}
 
 -- an item in its ranges
 abbrev ItemIn : List ℕ → Item → Type 0

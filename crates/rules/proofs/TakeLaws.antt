@@ -19,12 +19,15 @@ use Rattle.layout.specs.Offsets.{clashAt, cabinetsAt, unknownsAt, ownersAt}
 use Rattle.layout.specs.Fields.{byteAt, countOf, itemAt}
 use Rattle.layout.specs.Changes.{removedAt, appendedAll}
 use Rattle.layout.specs.Given.{Reads, byteLimit, countLimit}
-use Rattle.rules.proofs.Choice as kind
-use Rattle.rules.specs.declared.Choice.{Choice}
-use Rattle.rules.specs.declared.Choice.the-variants.{Waits, Interchange, Memo, Dereference, Identify, Conflict, Decompose, Initiate}
-use Rattle.rules.specs.Plans.{choiceOf, nothing, mark, owner, applied, plan, planOfChoice, planOfAsk, planOf}
+use Rattle.choices.proofs.Choice as kind
+use Rattle.choices.specs.declared.Choice.{Choice}
+use Rattle.choices.specs.declared.Choice.the-variants.{Waits, Interchange, Memo, Dereference, Identify, Conflict, Decompose, Initiate}
+use Rattle.choices.specs.Choices.{choiceOf}
+use Rattle.effects.specs.Changes.{nothing, mark, owner, applied}
+use Rattle.effects.specs.Given.{Fits}
+use Rattle.rules.specs.Plans.{plan, planOfChoice, planOfAsk, planOf}
 use Rattle.rules.specs.Bytes.{out, performedBytes, takenBytes}
-use Rattle.rules.specs.Given.{Fits, productCount, fullFor, carriedBytes, waitsIn, waitsBytes}
+use Rattle.rules.specs.Given.{productCount, fullFor, carriedBytes, waitsIn, waitsBytes}
 use Rattle.rules.proofs.CarryLaws.{decompose-count, news-count}
 
 -- the room, with the count as read

@@ -10,7 +10,8 @@ use Rattle.layout.specs.Offsets.{clashAt, runBytes}
 use Rattle.layout.specs.Fields.{byteAt, countOf, itemAt}
 use Rattle.layout.specs.Soundness.{soundBytes}
 use Rattle.layout.specs.Changes.{removedAt, appendedAll}
-use Rattle.rules.specs.Plans.{Plan, wait, plan, applied, planOf}
+use Rattle.effects.specs.Changes.{applied}
+use Rattle.rules.specs.Plans.{Plan, wait, plan, planOf}
 
 -- number (0 for done, else the refusal), rule or steps done, and the bytes left
 pub data Out : Type 0 where

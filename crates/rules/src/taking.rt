@@ -1,7 +1,5 @@
 // One item is taken: 15, 13, 14 and 18 refuse it, in this order and before anything is changed; else its rule is carried out.
-use super::Choice;
-use super::choosing;
-use super::effects;
+use choices::Choice;
 use paper::Item;
 ghost use mathlib.Core.Path.{_≡_};
 ghost use mathlib.Core.Bool.{true};
@@ -13,10 +11,14 @@ ghost use Rattle.layout.specs.Offsets.{cabinetsAt, unknownsAt, recordsAt, owner
 ghost use Rattle.layout.specs.Fields.{byteAt, countOf};
 ghost use Rattle.layout.specs.Soundness.{soundBytes};
 ghost use Rattle.layout.specs.Given.{Reads, byteLimit};
-ghost use Rattle.rules.specs.declared.Choice.the-variants.{Decompose};
-ghost use Rattle.rules.specs.Plans.{mark, plan, choiceOf, planOfChoice, planOfAsk};
+ghost use Rattle.choices.specs.declared.Choice.the-variants.{Decompose};
+ghost use Rattle.choices.specs.Choices.{choiceOf};
+ghost use Rattle.choices.specs.Given.{StatementIn};
+ghost use Rattle.effects.specs.Changes.{mark};
+ghost use Rattle.effects.specs.Given.{Fits};
+ghost use Rattle.rules.specs.Plans.{plan, planOfChoice, planOfAsk};
 ghost use Rattle.rules.specs.Bytes.{out, performedBytes, takenBytes};
-ghost use Rattle.rules.specs.Given.{StatementIn, Fits, productCount, fullFor, carriedBytes, waitsIn, waitsBytes};
+ghost use Rattle.rules.specs.Given.{productCount, fullFor, carriedBytes, waitsIn, waitsBytes};
 
 const ROOM: usize = 12672;
 
@@ -110,7 +112,7 @@ fn take_statement(run: &mut [u8], place: usize, c: u8, a: u8, b: u8) -> StepRepl
     requires { ⌜ StatementIn (now run) c a b × Fits (now run) place 0 ⌝ }
     ensures { λ r. ⌜ out (r .number) (r .rule) (now (run .exit)) ≡ performedBytes (now (run .entry)) place (planOfChoice (now (run .entry)) c a b (choiceOf (byteAt (now (run .entry)) unknownsAt) (now (run .entry)) c a b)) ⌝ }
 {
-    let q = choosing::choose(run, c as usize, a as usize, b as usize);
+    let q = choices::choose(run, c as usize, a as usize, b as usize);
     if let Choice::Waits = q {
         return StepReply {
             number: STILL_WAITS,
@@ -202,7 +204,7 @@ fn statement_waits(run: &[u8], c: u8, a: u8, b: u8) -> bool
     requires { ⌜ StatementIn (now run) c a b ⌝ }
     ensures { λ t. ⌜ t ≡ waitsIn (planOfChoice (now (run .entry)) c a b (choiceOf (byteAt (now (run .entry)) unknownsAt) (now (run .entry)) c a b)) ⌝ }
 {
-    let q = choosing::choose(run, c as usize, a as usize, b as usize);
+    let q = choices::choose(run, c as usize, a as usize, b as usize);
     if let Choice::Waits = q {
         return true;
     }

@@ -1,5 +1,5 @@
-use native.Mathlib.Omega.{arith}
 -- `take` meets its contract: 15, 13, and a law for each kind of item, whose ranges follow from the run's soundness.
+use native.Mathlib.Omega.{arith}
 use Rattle.rules.proofs.TakeLaws.{taken-clashed, taken-no-place, taken-statement, taken-ask, taken-news}
 use Rattle.rules.proofs.SoundItems.{sound-place, sound-fits, sound-statement, sound-cabinets, sound-ask, sound-news, sound-news-cabinet}
 use borrow.Author.Needs.{needs}
