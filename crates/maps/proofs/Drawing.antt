@@ -18,11 +18,11 @@ use Rattle.layout.specs.Fields.{byteAt, bytesOf, symbolOf, partCountOf, recordO
 use Rattle.layout.specs.MapRows.{lookBytes, bytesOfRow, mapOf}
 use Rattle.layout.specs.Given.{Reads, byteLimit}
 use Rattle.layout.proofs.ChangeLaws.{put-then, put-one, put-over}
-use Rattle.maps.specs.Given.{SoundRun, OneRecord}
-use Rattle.maps.specs.Ends.{endsOf, EndsAt}
+use Rattle.agreement.specs.Given.{SoundRun, OneRecord}
+use Rattle.agreement.specs.Ends.{endsOf, EndsAt}
+use Rattle.agreement.proofs.Ranges.{counted-record, ended-record}
+use Rattle.agreement.proofs.Chains.{open-end, record-end}
 use Rattle.maps.specs.Rows.{lowsOf, recordLookOf, rowsOf, laid, Drawn}
-use Rattle.maps.proofs.Ranges.{counted-record, ended-record}
-use Rattle.maps.proofs.Chains.{open-end, record-end}
 use Rattle.maps.proofs.Lowest.{lows-count}
 
 drop-replicate : (k n a : ℕ) → drop k (replicate n a) ≡ replicate (n - k) a

@@ -1,8 +1,3 @@
-pub mod Ranges
-pub mod Chains
-pub mod Bits
-pub mod MetTable
-pub mod AgreementLaws
 pub mod Lowest
 pub mod Drawing
 pub mod MapCall

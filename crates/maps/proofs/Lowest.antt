@@ -15,8 +15,8 @@ use Rattle.paper.specs.Ends.{agree}
 use Rattle.paper.specs.Maps.{lowestOf}
 use Rattle.layout.specs.Fields.{partCountOf, partOf, recordOf}
 use Rattle.layout.specs.Given.{Reads, byteLimit}
-use Rattle.maps.specs.Given.{SoundRun, OneRecord}
-use Rattle.maps.specs.Ends.{endsOf}
+use Rattle.agreement.specs.Given.{SoundRun, OneRecord}
+use Rattle.agreement.specs.Ends.{endsOf}
 use Rattle.maps.specs.Rows.{lowsOf}
 
 module _ (f : ℕ → Bool) (x y : ℕ) (l : y < x) where

@@ -8,7 +8,7 @@ use Rattle.paper.specs.Maps.{lowestOf, rowsFrom}
 use Rattle.layout.specs.Offsets.{symbolBytes, rowBytes, mapBytes}
 use Rattle.layout.specs.Fields.{bytesOf, symbolOf, partCountOf, recordOf, tableOf, runOf}
 use Rattle.layout.specs.MapRows.{bytesOfRow}
-use Rattle.maps.specs.Ends.{endsOf}
+use Rattle.agreement.specs.Ends.{endsOf}
 
 -- the lowest same item of each part of record i
 unfoldable pub lowsOf : List ℕ → ℕ → ℕ → List ℕ

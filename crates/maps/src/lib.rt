@@ -1,7 +1,4 @@
-// The map of a run: owner marks followed to their end, agreement with a table of met pairs, and the 352 bytes.
-mod agreement; // agreement.rt: whether two unknowns agree
-mod ends; // ends.rt: owner marks followed to their end
-mod met; // met.rt: the table of met pairs
+// The map of a run: its refusals, and its 352 bytes.
 mod rows; // rows.rt: the rows of the map
 
 use rows::MAP_BYTES;

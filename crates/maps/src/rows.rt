@@ -1,7 +1,7 @@
 // The rows of the map, each in its 11 bytes.
-use super::agreement::same_item;
-use super::ends::end_of;
-use super::met::MOST_UNKNOWNS;
+use agreement::MOST_UNKNOWNS;
+use agreement::end_of;
+use agreement::same_item;
 ghost use mathlib.Core.Path.{_≡_};
 ghost use Prim.Native.Nat.{_+_, _≤_, _<_};
 ghost use lib.ListN.{length};
@@ -11,8 +11,8 @@ ghost use Rattle.layout.specs.Offsets.{recordsAt, rowBytes, mapBytes};
 ghost use Rattle.layout.specs.Fields.{byteAt, tableOf, runOf};
 ghost use Rattle.layout.specs.MapRows.{mapOf};
 ghost use Rattle.layout.specs.Given.{Reads, byteLimit};
-ghost use Rattle.maps.specs.Given.{SoundRun, OneRecord};
-ghost use Rattle.maps.specs.Ends.{endsOf};
+ghost use Rattle.agreement.specs.Given.{SoundRun, OneRecord};
+ghost use Rattle.agreement.specs.Ends.{endsOf};
 ghost use Rattle.maps.specs.Rows.{lowsOf, recordLookOf, Drawn};
 
 // The kind of a row that is not open.

@@ -1,6 +1,6 @@
 -- `map` meets its contract: one law for each refusal, and one for the map that is drawn.
 use borrow.Author.Needs.{needs}
-use Rattle.maps.proofs.Ranges.{checked-run}
+use Rattle.agreement.proofs.Ranges.{checked-run}
 use Rattle.maps.proofs.MapCall.{run-length-refused, map-length-refused, unsound-refused, clash-refused, pending-refused, map-made}
 use Rattle.maps.proofs.map.Statement.{statement}
 use Rattle.maps.proofs.map.Tie as tie

@@ -5,7 +5,7 @@ use borrow.Author.Needs.{needs}
 use Rattle.base.specs.Choice.{firstOf}
 use Rattle.paper.specs.Ends.{agree}
 use Rattle.paper.specs.Maps.{lowestOf}
-use Rattle.maps.specs.Ends.{endsOf}
+use Rattle.agreement.specs.Ends.{endsOf}
 use Rattle.maps.proofs.Lowest.{lowest-from-0, lowest-found, lowest-later, lowest-itself}
 use Rattle.maps.proofs.rows.lowest.Statement.{statement}
 use Rattle.maps.proofs.rows.lowest.Tie as tie

@@ -6,7 +6,7 @@ use borrow.Author.Needs.{needs}
 use lib.ListN.{length, take, length-set}
 use Rattle.base.specs.Regions.{put}
 use Rattle.maps.specs.Rows.{lowsOf}
-use Rattle.maps.proofs.Ranges.{part-unknown}
+use Rattle.agreement.proofs.Ranges.{part-unknown}
 use Rattle.maps.proofs.Lowest.{no-lows, lows-more, lows-all}
 use Rattle.maps.proofs.rows.write_lows.Statement.{statement}
 use Rattle.maps.proofs.rows.write_lows.Tie as tie

@@ -1,7 +1,7 @@
 -- `write_record` meets its contract: the kind, the head and the parts, each right after the other.
 use native.Mathlib.Omega.{arith}
 use lib.ListN.{length-set}
-use Rattle.maps.proofs.Ranges.{counted-record}
+use Rattle.agreement.proofs.Ranges.{counted-record}
 use Rattle.maps.proofs.Drawing.{parts-fit, record-put, record-length}
 use borrow.Author.Needs.{needs}
 use Rattle.maps.proofs.rows.write_record.Statement.{statement}

@@ -1,0 +1,94 @@
+-- What following a mark gives: an unknown without one is its own end, a record's mark ends the chain, and any other falls.
+use mathlib.Core.Path.{_≡_, sym, subst, ap, _∙_}
+use mathlib.Core.Bool.{Bool, false}
+use mathlib.Core.List.{List}
+use mathlib.Core.Option.{none, some}
+use Prim.Native.Nat.{ℕ, _+_, _-_, _≤_, _<_}
+use native.Mathlib.Omega.{arith}
+use borrow.Author.Tests.{lt-ltb, le-ltb, eq-eqb, ne-eqb}
+use lib.Dec.{eqb}
+use Rattle.base.specs.Choice.{pick}
+use Rattle.paper.specs.Sizes.{numberLimit}
+use Rattle.paper.specs.Tables.{sameHead}
+use Rattle.paper.specs.Runs.{Lesser, OwnerOk}
+use Rattle.paper.specs.Ends.{atOpen, atRecord}
+use Rattle.paper.proofs.Ranks.{rank-unknown, is-record}
+use Rattle.paper.proofs.Chains.{Falls, end-record, end-open, end-owner, owners-fall}
+use Rattle.layout.specs.Offsets.{unknownsAt, recordsAt, ownersAt}
+use Rattle.layout.specs.Fields.{byteAt, symbolOf, partCountOf, recordOf, ownerMark, ownerOf, tableOf}
+use Rattle.layout.specs.Given.{Reads, byteLimit}
+use Rattle.layout.proofs.SoundViews.{entries-are, owner-ok}
+use Rattle.layout.proofs.ViewedFields.{owner-byte, record-byte, head-byte}
+use Rattle.agreement.specs.Given.{SoundRun}
+use Rattle.agreement.specs.Ends.{endAt, EndsAt}
+use Rattle.agreement.proofs.Ranges.{tests}
+
+-- an entry as an end
+module _ (d : List ℕ) (a : ℕ) where
+  pub open-end : a < byteAt d unknownsAt → endAt d a ≡ atOpen a
+  unfolding endAt
+  open-end h = rw (lt-ltb a (byteAt d unknownsAt) h)
+
+  pub record-end : byteAt d unknownsAt ≤ a → endAt d a ≡ atRecord (recordOf d (a - byteAt d unknownsAt))
+  unfolding endAt
+  record-end h = rw (le-ltb a (byteAt d unknownsAt) h)
+
+-- the mark m of the unknown x
+module _ (d : List ℕ) (v x m : ℕ) (g : SoundRun d v) (hx : x < v) (r : Reads (byteAt d (ownersAt + x)) byteLimit m) where
+  owned : (m ≡ 255 → ⊥) → ownerOf d x ≡ some m
+  owned n =
+      owner-byte d x (omega (arith, g .few-unknowns))
+      ∙ ap ownerMark (sym (r .same))
+      ∙ ap (λ (b : Bool). pick b none (some m)) (ne-eqb m 255 n)
+
+  unowned : m ≡ 255 → ownerOf d x ≡ none
+  unowned e =
+      owner-byte d x (omega (arith, g .few-unknowns))
+      ∙ ap ownerMark (sym (r .same))
+      ∙ ap (λ (b : Bool). pick b none (some m)) (eq-eqb m 255 e)
+
+  fall : Falls (tableOf d) (ownerOf d)
+  fall = owners-fall (tableOf d) (ownerOf d) (owner-ok d (g .long) (tests d v g))
+
+  lesser : (m ≡ 255 → ⊥) → Lesser (tableOf d) m x
+  lesser n = subst (OwnerOk (tableOf d) x) (owned n) (owner-ok d (g .long) (tests d v g) x)
+
+  mark-entry : (m ≡ 255 → ⊥) → m < byteAt d unknownsAt + byteAt d recordsAt
+  mark-entry n = omega (arith, lesser n .entry, entries-are d)
+
+  pub no-mark : m ≡ 255 → EndsAt d x x
+  unfolding tableOf
+  no-mark e =
+      let h : x < byteAt d unknownsAt = omega (arith, g .unknowns) in
+      record { entry = omega arith; is = end-open (tableOf d) (ownerOf d) x h (unowned e) ∙ sym (open-end d x h) }
+
+  pub record-mark : (m ≡ 255 → ⊥) → v ≤ m → EndsAt d x m
+  unfolding tableOf
+  record-mark n h =
+      let l : byteAt d unknownsAt ≤ m = omega (arith, g .unknowns) in
+      record {
+        entry = mark-entry n;
+        is =
+            end-owner (tableOf d) (ownerOf d) fall x m (owned n)
+            ∙ end-record (tableOf d) (ownerOf d) m (is-record (tableOf d) m l)
+            ∙ ap atRecord (record-byte d m l (mark-entry n))
+            ∙ sym (record-end d m l);
+      }
+
+  pub mark-followed : (a : ℕ) → EndsAt d m a → (m ≡ 255 → ⊥) → EndsAt d x a
+  mark-followed a e n = record { entry = e .entry; is = end-owner (tableOf d) (ownerOf d) fall x m (owned n) ∙ e .is }
+
+  pub mark-falls : (m ≡ 255 → ⊥) → m < v → m < x
+  unfolding tableOf
+  mark-falls n l =
+      let e = g .unknowns in
+      omega (arith, fall x m (owned n), rank-unknown (tableOf d) m (omega arith), rank-unknown (tableOf d) x (omega arith))
+
+-- two records' heads, as read
+module _ (d : List ℕ) (i k s t : ℕ) (hs : Reads (symbolOf d i) numberLimit s) (ht : Reads (symbolOf d k) numberLimit t) where
+  pub heads-differ : (s ≡ t → ⊥) → false ≡ sameHead (recordOf d i) (recordOf d k)
+  heads-differ n = sym (head-byte d i k ∙ rw (← hs .same, ← ht .same, ne-eqb s t n))
+
+  pub heads-counted : (m n : ℕ) → Reads (partCountOf d i) byteLimit m → Reads (partCountOf d k) byteLimit n → s ≡ t
+      → eqb m n ≡ sameHead (recordOf d i) (recordOf d k)
+  heads-counted m n hm hn e = sym (head-byte d i k ∙ rw (← hs .same, ← ht .same, ← hm .same, ← hn .same, eq-eqb s t e))

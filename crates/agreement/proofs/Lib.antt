@@ -1,0 +1,5 @@
+pub mod Ranges
+pub mod Chains
+pub mod Bits
+pub mod MetTable
+pub mod AgreementLaws

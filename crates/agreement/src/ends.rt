@@ -1,0 +1,39 @@
+// Owner marks followed to their end, and two records' heads compared.
+ghost use mathlib.Core.Path.{_≡_};
+ghost use Prim.Native.Nat.{_<_};
+ghost use lib.ListN.{length};
+ghost use Rattle.paper.specs.Sizes.{mostRecords};
+ghost use Rattle.paper.specs.Tables.{sameHead};
+ghost use Rattle.layout.specs.Offsets.{runBytes};
+ghost use Rattle.layout.specs.Fields.{recordOf};
+ghost use Rattle.agreement.specs.Given.{SoundRun};
+ghost use Rattle.agreement.specs.Ends.{EndsAt};
+
+// The mark of an unknown that has no owner.
+const NOTHING: usize = 255;
+
+// The entry at which the owner marks from x on end: an unknown without one, or a record.
+pub fn end_of(run: &[u8], v: usize, x: usize) -> usize
+    requires { ⌜ SoundRun (now run) v × (x < v) ⌝ }
+    ensures { λ a. ⌜ EndsAt (now (run .entry)) x a ⌝ }
+{
+    let m = layout::owner_at(run, x);
+    if m == NOTHING {
+        return x;
+    }
+    if v <= m {
+        return m;
+    }
+    end_of(run, v, m)
+}
+
+// Whether records i and k have the same symbol and part count.
+pub fn same_head(run: &[u8], i: usize, k: usize) -> bool
+    requires { ⌜ (length (now run) ≡ runBytes) × (i < mostRecords) × (k < mostRecords) ⌝ }
+    ensures { λ b. ⌜ b ≡ sameHead (recordOf (now (run .entry)) i) (recordOf (now (run .entry)) k) ⌝ }
+{
+    if layout::symbol_at(run, i) != layout::symbol_at(run, k) {
+        return false;
+    }
+    layout::part_count(run, i) == layout::part_count(run, k)
+}

@@ -1,0 +1,100 @@
+// Whether two unknowns agree: one function on unknowns and one on part lists call each other, and the table of met pairs goes
+// from call to call by value.
+mod ends; // ends.rt: owner marks followed to their end
+mod met; // met.rt: the table of met pairs
+
+pub use ends::end_of;
+use ends::same_head;
+pub use met::MOST_UNKNOWNS;
+use met::Met;
+use met::is_met;
+use met::meet;
+ghost use mathlib.Core.Path.{_≡_};
+ghost use Prim.Native.Nat.{_<_};
+ghost use Rattle.base.specs.Lists.{listFrom};
+ghost use Rattle.paper.specs.Ends.{Unknowns, Parts, agree};
+ghost use Rattle.layout.specs.Fields.{partOf};
+ghost use Rattle.agreement.specs.Given.{SoundRun, OneRecord};
+ghost use Rattle.agreement.specs.Ends.{endsOf};
+ghost use Rattle.agreement.specs.Met.{metOf};
+
+// The answer, and the table after.
+struct Agreed {
+    same: bool,
+    met: Met,
+}
+
+// Whether x and y agree: one unknown, or a pair met before, is not compared; else their ends are.
+fn agree_unknowns(run: &[u8], v: usize, x: usize, y: usize, met: Met) -> Agreed
+    requires { ⌜ SoundRun (now run) v × (x < v) × (y < v) ⌝ }
+    ensures { λ r. ⌜ Unknowns (endsOf (now (run .entry))) x y (metOf (met .words)) (r .same) (metOf (r .met .words)) ⌝ }
+{
+    if x == y {
+        return Agreed { same: true, met };
+    }
+    if is_met(met, x, y) {
+        return Agreed { same: true, met };
+    }
+    let next = meet(met, x, y);
+    let a = end_of(run, v, x);
+    let b = end_of(run, v, y);
+    if a < v {
+        return Agreed {
+            same: a == b,
+            met: next,
+        };
+    }
+    if b < v {
+        return Agreed {
+            same: false,
+            met: next,
+        };
+    }
+    if !same_head(run, a - v, b - v) {
+        return Agreed {
+            same: false,
+            met: next,
+        };
+    }
+    let n = layout::part_count(run, a - v);
+    agree_parts(run, v, a - v, b - v, n, next)
+}
+
+// Whether the parts of records i and k, n each, agree.
+fn agree_parts(run: &[u8], v: usize, i: usize, k: usize, n: usize, met: Met) -> Agreed
+    requires { ⌜ OneRecord (now run) v i n × OneRecord (now run) v k n ⌝ }
+    ensures { λ r. ⌜ Parts (endsOf (now (run .entry))) (listFrom (partOf (now (run .entry)) i) n 0) (listFrom (partOf (now (run .entry)) k) n 0) (metOf (met .words)) (r .same) (metOf (r .met .words)) ⌝ }
+{
+    let mut next = met;
+    let mut j = 0;
+    while j < n {
+        let p = layout::part_at(run, i, j);
+        let q = layout::part_at(run, k, j);
+        let answer = agree_unknowns(run, v, p, q, next);
+        let same = answer.same;
+        next = answer.met;
+        if !same {
+            return Agreed {
+                same: false,
+                met: next,
+            };
+        }
+        j += 1;
+    }
+    Agreed {
+        same: true,
+        met: next,
+    }
+}
+
+// Whether x and y are the same item: they agree, asked with no pair met.
+pub fn same_item(run: &[u8], v: usize, x: usize, y: usize) -> bool
+    requires { ⌜ SoundRun (now run) v × (x < v) × (y < v) ⌝ }
+    ensures { λ b. ⌜ b ≡ agree (endsOf (now (run .entry))) v x y ⌝ }
+{
+    let none = Met {
+        words: [0u32; MOST_UNKNOWNS],
+    };
+    let answer = agree_unknowns(run, v, x, y, none);
+    answer.same
+}
