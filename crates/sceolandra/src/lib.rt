@@ -1,13 +1,13 @@
 // The public calls. Each takes every input: its contract, one equation over the definition that it cites, determines the reply and
 // every byte of the lent buffers, refused calls too. `number` is 0 for done, else document 01's refusal.
+use reading::Span;
 use rules::ListReply;
 use rules::StepReply;
 use statements::LoadReply;
-use statements::Span;
 use statements::WriteReply;
 ghost use mathlib.Core.Path.{_≡_};
 ghost use Rattle.paper.specs.Files.{statementSpan};
-ghost use Rattle.statements.specs.Reads.{spanOf};
+ghost use Rattle.reading.specs.Reads.{spanOf};
 ghost use Rattle.statements.specs.Writes.{answer, loadBytes, writtenBytes};
 ghost use Rattle.rules.specs.Bytes.{out, stepBytes, stepsBytes};
 ghost use Rattle.maps.specs.Bytes.{mapped, mapBytesOf};
@@ -31,7 +31,7 @@ pub extern "C" fn sc_load(file: &[u8], run: &mut [u8]) -> LoadReply
 pub extern "C" fn sc_statement(file: &[u8], n: usize) -> Span
     ensures { λ r. ⌜ spanOf r ≡ statementSpan (now (file .entry)) n ⌝ }
 {
-    statements::find_statement(file, n)
+    reading::find_statement(file, n)
 }
 
 // One step, at a place: number and the rule.

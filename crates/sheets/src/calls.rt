@@ -1,5 +1,5 @@
 // One function for each kind of call; each gives the line that it prints.
-use super::reading;
+use super::pieces;
 ghost use Prim.Native.Nat.{_≤_, _<_};
 ghost use lib.ListN.{length};
 ghost use mathlib.Core.Path.{_≡_};
@@ -26,24 +26,24 @@ pub struct Line {
 fn load(bytes: &[u8], run: &mut [u8]) -> Line
     requires { ⌜ length (now run) ≡ runSpace ⌝ }
 {
-    let n = reading::at_most(reading::two(bytes, 0), RUN_SPACE);
-    let reply = sceolandra::sc_load(reading::piece(bytes, 2, bytes.len()), &mut run[0..n]);
+    let n = pieces::at_most(pieces::two(bytes, 0), RUN_SPACE);
+    let reply = sceolandra::sc_load(pieces::piece(bytes, 2, bytes.len()), &mut run[0..n]);
     Line {
         number: reply.number as u64,
         value: reply.position as u64,
-        hash: reading::hash(run),
+        hash: pieces::hash(run),
     }
 }
 
 // Statement: n (2), the file. The part of the file that it gives is hashed.
 fn statement(bytes: &[u8]) -> Line {
-    let n = reading::two(bytes, 0);
-    let file = reading::piece(bytes, 2, bytes.len());
+    let n = pieces::two(bytes, 0);
+    let file = pieces::piece(bytes, 2, bytes.len());
     let span = sceolandra::sc_statement(file, n);
     Line {
         number: span.start as u64,
         value: span.size as u64,
-        hash: reading::hash(statements::statement(file, n)),
+        hash: pieces::hash(reading::statement(file, n)),
     }
 }
 
@@ -51,12 +51,12 @@ fn statement(bytes: &[u8]) -> Line {
 fn step(bytes: &[u8], run: &mut [u8]) -> Line
     requires { ⌜ length (now run) ≡ runSpace ⌝ }
 {
-    let n = reading::at_most(reading::two(bytes, 0), RUN_SPACE);
-    let reply = sceolandra::sc_step(&mut run[0..n], reading::two(bytes, 2));
+    let n = pieces::at_most(pieces::two(bytes, 0), RUN_SPACE);
+    let reply = sceolandra::sc_step(&mut run[0..n], pieces::two(bytes, 2));
     Line {
         number: reply.number as u64,
         value: reply.rule as u64,
-        hash: reading::hash(run),
+        hash: pieces::hash(run),
     }
 }
 
@@ -68,7 +68,7 @@ fn read_places(bytes: &[u8], places: &mut [u32]) -> usize
     let mut at = 2;
     let mut i = 0;
     while i < LIST_SPACE && at < bytes.len() {
-        places[i] = reading::two(bytes, at) as u32;
+        places[i] = pieces::two(bytes, at) as u32;
         at += 2;
         i += 1;
     }
@@ -79,14 +79,14 @@ fn read_places(bytes: &[u8], places: &mut [u32]) -> usize
 fn steps(bytes: &[u8], run: &mut [u8]) -> Line
     requires { ⌜ length (now run) ≡ runSpace ⌝ }
 {
-    let n = reading::at_most(reading::two(bytes, 0), RUN_SPACE);
+    let n = pieces::at_most(pieces::two(bytes, 0), RUN_SPACE);
     let mut places = [0u32; LIST_SPACE];
     let count = read_places(bytes, &mut places);
     let reply = sceolandra::sc_steps(&mut run[0..n], &places[0..count]);
     Line {
         number: reply.number as u64,
         value: reply.done as u64,
-        hash: reading::hash(run),
+        hash: pieces::hash(run),
     }
 }
 
@@ -94,13 +94,13 @@ fn steps(bytes: &[u8], run: &mut [u8]) -> Line
 fn make_map(bytes: &[u8], run: &[u8], map: &mut [u8]) -> Line
     requires { ⌜ (length (now run) ≡ runSpace) × (length (now map) ≡ mapSpace) ⌝ }
 {
-    let n = reading::at_most(reading::two(bytes, 0), RUN_SPACE);
-    let k = reading::at_most(reading::two(bytes, 2), MAP_SPACE);
+    let n = pieces::at_most(pieces::two(bytes, 0), RUN_SPACE);
+    let k = pieces::at_most(pieces::two(bytes, 2), MAP_SPACE);
     let reply = sceolandra::sc_map(&run[0..n], &mut map[0..k]);
     Line {
         number: reply.number as u64,
         value: 0,
-        hash: reading::hash(map),
+        hash: pieces::hash(map),
     }
 }
 
@@ -108,13 +108,13 @@ fn make_map(bytes: &[u8], run: &[u8], map: &mut [u8]) -> Line
 fn write(bytes: &[u8], run: &[u8], file: &mut [u8]) -> Line
     requires { ⌜ (length (now run) ≡ runSpace) × (length (now file) ≡ fileSpace) ⌝ }
 {
-    let n = reading::at_most(reading::two(bytes, 0), RUN_SPACE);
-    let k = reading::at_most(reading::two(bytes, 2), FILE_SPACE);
+    let n = pieces::at_most(pieces::two(bytes, 0), RUN_SPACE);
+    let k = pieces::at_most(pieces::two(bytes, 2), FILE_SPACE);
     let reply = sceolandra::sc_write(&run[0..n], &mut file[0..k]);
     Line {
         number: reply.number as u64,
         value: reply.length as u64,
-        hash: reading::hash(file),
+        hash: pieces::hash(file),
     }
 }
 
@@ -123,7 +123,7 @@ fn hashed(run: &[u8]) -> Line {
     Line {
         number: 0,
         value: 0,
-        hash: reading::hash(run),
+        hash: pieces::hash(run),
     }
 }
 
@@ -141,16 +141,16 @@ fn lay(pattern: &[u8], run: &mut [u8], at: usize, count: usize)
 {
     let mut i = 0;
     while i < count {
-        set(run, at + i, reading::byte(pattern, i % pattern.len()));
+        set(run, at + i, pieces::byte(pattern, i % pattern.len()));
         i += 1;
     }
 }
 
 // Poke: where (2), how many bytes of the run are laid (2), the pattern.
 fn poke(bytes: &[u8], run: &mut [u8]) -> Line {
-    let at = reading::two(bytes, 0);
-    let count = reading::two(bytes, 2);
-    let pattern = reading::piece(bytes, 4, bytes.len());
+    let at = pieces::two(bytes, 0);
+    let count = pieces::two(bytes, 2);
+    let pattern = pieces::piece(bytes, 4, bytes.len());
     if pattern.len() == 0 {
         return hashed(run);
     }
@@ -160,7 +160,7 @@ fn poke(bytes: &[u8], run: &mut [u8]) -> Line {
 
 // Fill: the byte that every lent byte has from now on.
 fn fill(bytes: &[u8], run: &mut [u8], map: &mut [u8], file: &mut [u8]) -> Line {
-    let v = reading::byte(bytes, 0);
+    let v = pieces::byte(bytes, 0);
     layout::fill(run, 0, run.len(), v);
     layout::fill(map, 0, map.len(), v);
     layout::fill(file, 0, file.len(), v);
@@ -176,7 +176,7 @@ fn load_changed(file: &mut [u8], n: usize, at: usize, v: u8, run: &mut [u8]) -> 
     let number = reply.number;
     let mut hash = 0;
     if number == 0 {
-        hash = reading::hash(run);
+        hash = pieces::hash(run);
     }
     Line {
         number: number as u64,
@@ -189,15 +189,15 @@ fn load_changed(file: &mut [u8], n: usize, at: usize, v: u8, run: &mut [u8]) -> 
 fn damage(bytes: &[u8], run: &mut [u8], file: &mut [u8]) -> Line
     requires { ⌜ (length (now run) ≡ runSpace) × (length (now file) ≡ fileSpace) ⌝ }
 {
-    let at = reading::two(bytes, 0);
-    let n = reading::copy(reading::piece(bytes, 2, bytes.len()), file);
+    let at = pieces::two(bytes, 0);
+    let n = pieces::copy(pieces::piece(bytes, 2, bytes.len()), file);
     let mut replies = 1;
     let mut runs = 1;
     let mut v: usize = 0;
     while v < 256 && at < FILE_SPACE {
         let line = load_changed(file, n, at, v as u8, run);
-        replies = reading::fold(reading::fold(replies, line.number), line.value);
-        runs = reading::fold(runs, line.hash);
+        replies = pieces::fold(pieces::fold(replies, line.number), line.value);
+        runs = pieces::fold(runs, line.hash);
         v += 1;
     }
     Line {
@@ -243,7 +243,7 @@ fn print(bytes: &[u8]) -> Line {
     Line {
         number: bytes.len() as u64,
         value: 0,
-        hash: reading::hash(bytes),
+        hash: pieces::hash(bytes),
     }
 }
 

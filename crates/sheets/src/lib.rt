@@ -1,7 +1,7 @@
 // A sheet: the public calls written as bytes, made one after the other on one run, one map and one file. Each prints a line: two
 // numbers of its reply, and a hash of the buffer that was lent. The second model writes the sheets and what they have to print.
 mod calls; // calls.rt: one function for each call
-mod reading; // reading.rt: a sheet's bytes, and the hash
+mod pieces; // pieces.rt: a sheet's bytes, and the hash
 
 use calls::Line;
 use libc::STDOUT_FILENO;
@@ -32,8 +32,8 @@ fn make_calls(sheet: &[u8], run: &mut [u8], map: &mut [u8], file: &mut [u8])
 {
     let mut at = 0;
     while at < sheet.len() {
-        let n = reading::two(sheet, at + 1);
-        let bytes = reading::piece(sheet, at + 3, n);
+        let n = pieces::two(sheet, at + 1);
+        let bytes = pieces::piece(sheet, at + 3, n);
         print_line(calls::make(sheet[at], bytes, run, map, file));
         at += n + 3;
     }

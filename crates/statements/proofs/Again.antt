@@ -8,11 +8,11 @@ use lib.ListN.{drop}
 use lib.Seq.{drop-drop}
 use Rattle.paper.specs.Files.{Form, times, Read, got, fault, reading}
 use Rattle.paper.proofs.Forms.{fault-got}
-use Rattle.statements.specs.declared.reading.End.{End}
-use Rattle.statements.specs.declared.reading.End.the-variants.{At, Refused}
-use Rattle.statements.specs.Reads.{readTo}
-use Rattle.statements.proofs.Ends.{ended-at, ended-refused}
-use Rattle.statements.proofs.Times.{after, first-read, first-refused}
+use Rattle.reading.specs.declared.End.{End}
+use Rattle.reading.specs.declared.End.the-variants.{At, Refused}
+use Rattle.reading.specs.Reads.{readTo}
+use Rattle.reading.proofs.Ends.{ended-at, ended-refused}
+use Rattle.reading.proofs.Times.{after, first-read, first-refused}
 
 -- the first value of those that were read, and the rest
 after-got : {A : Type 0} (a : A) (x : Read (List A)) (l : List A) (to : ℕ) → after (a ∷ []) x ≡ got l to

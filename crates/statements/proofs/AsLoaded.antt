@@ -1,36 +1,29 @@
 -- "As loading some file leaves it" is the test that writing makes of a sound run: what a loaded run passes, and only a loaded
 -- run passes.
-use mathlib.Core.Path.{_≡_, refl, sym, subst, ap, ap₂, _∙_, fun-ext}
-use mathlib.Core.Logic.{_⊎_, inl, inr, ⊎-elim}
+use mathlib.Core.Path.{_≡_, refl, sym, subst, ap, _∙_, fun-ext}
 use mathlib.Core.Bool.{Bool, true, false, _&&_}
-use mathlib.Core.List.{List, [], _∷_, _++_, map}
-use mathlib.Core.Option.{Option, none, some}
-use Prim.Native.Nat.{ℕ, zero, suc, _+_, _-_, _*_, _/_, _%_, _≤_, _<_}
+use mathlib.Core.List.{List, [], _∷_, map}
+use mathlib.Core.Option.{none, some}
+use Prim.Native.Nat.{ℕ, zero, suc, _+_, _-_, _/_, _%_, _≤_, _<_}
 use native.Mathlib.Omega.{arith}
 use borrow.Author.Tests.{ltb-true, ltb-false, lt-ltb, eqb-true, eqb-false, eq-eqb}
 use lib.Dec.{ltb, eqb}
 use lib.ListN.{length, length-map}
-use Rattle.base.specs.Choice.{pick, allBelow}
-use Rattle.base.specs.Lists.{listFrom, All}
-use Rattle.base.proofs.Tests.{fst-true, snd-true, and-true}
+use Rattle.base.specs.Choice.{pick}
+use Rattle.base.specs.Lists.{listFrom}
+use Rattle.base.proofs.Tests.{fst-true, snd-true}
 use Rattle.base.proofs.Ranges.{below-each, each-below}
 use Rattle.base.proofs.Froms.{from-length, from-same, from-all, all-from}
-use Rattle.paper.specs.Sizes.{mostCabinets, mostUnknowns, mostStatements, room}
-use Rattle.paper.specs.Tables.{Table, entries}
-use Rattle.paper.specs.Runs.{Mark, nothing, initiated, entry, Statement, State, Run, asItem, initial, ItemOk, Sound}
-use Rattle.paper.specs.Files.{File}
+use Rattle.paper.specs.Sizes.{mostCabinets, mostUnknowns}
+use Rattle.paper.specs.Runs.{nothing, initiated, entry, Statement, State, Run, asItem, initial, ItemOk, Sound}
 use Rattle.paper.specs.Reached.{StatementOk, FileOk}
 use Rattle.paper.specs.declared.Item.{Item}
 use Rattle.paper.specs.declared.Item.the-variants.{Statement as statement, Ask as ask, News as news}
-use Rattle.layout.specs.Offsets.{clashAt, clashCabinetAt, statementsAt, ownersAt, storesAt, memosAt, pendingAt, runBytes, storeFrom, memoFrom, itemFrom}
+use Rattle.layout.specs.Offsets.{clashAt, clashCabinetAt, statementsAt, ownersAt, storesAt, memosAt, pendingAt, storeFrom, memoFrom, itemFrom}
 use Rattle.layout.specs.Fields.{byteAt, clashOf, countOf, ownerMark, storeMark, ownerOf, markOf, pairOf, itemOfBytes, itemAt, itemsFrom, tableOf, stateOf, runOf}
-use Rattle.layout.specs.Soundness.{soundBytes, zerosAt}
-use Rattle.layout.proofs.Frames.{Shaped}
+use Rattle.layout.specs.Soundness.{zerosAt}
 use Rattle.layout.proofs.Canonical.{Canonical}
-use Rattle.layout.proofs.SoundViews.{Bytes, tested, shaped, view-sound, canonical}
-use Rattle.statements.specs.Loads.{loadedBytes}
 use Rattle.statements.specs.Writes.{unmarkedAt, allStatements, asLoaded, statementAt, fileOf}
-use Rattle.statements.proofs.Loaded.{LoadedAs, loaded-as}
 
 -- the test, taken apart
 pub record AsLoadedBytes (d : List ℕ) : Type 0 where

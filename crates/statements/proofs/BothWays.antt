@@ -1,39 +1,35 @@
 -- Reading and writing undo each other at the bytes: a loaded run is written as its file, and a written file loads to the very
 -- same 59,752 bytes.
 use mathlib.Core.Path.{_≡_, refl, sym, subst, ap, ap₂, _∙_}
-use mathlib.Core.Logic.{_⊎_, inl, inr, ⊎-elim, _↔_}
-use mathlib.Core.Bool.{Bool, true, false, _&&_}
-use mathlib.Core.List.{List, [], _∷_, _++_, map}
-use Prim.Native.Nat.{ℕ, zero, suc, _+_, _-_, _*_, _/_, _%_, _≤_, _<_}
+use mathlib.Core.Logic.{_⊎_, inl, inr, _↔_}
+use mathlib.Core.Bool.{true}
+use mathlib.Core.List.{List, [], _∷_, map}
+use Prim.Native.Nat.{ℕ, zero, suc, _+_, _-_, _/_, _≤_, _<_}
 use native.Mathlib.Omega.{arith}
 use borrow.Author.Tests.{eq-eqb}
-use lib.Dec.{eqb}
-use lib.ListN.{length, getD, length-map, List·getD-eq-default}
-use Rattle.base.specs.Choice.{pick}
+use lib.ListN.{length, getD, List·getD-eq-default}
 use Rattle.base.specs.Lists.{All}
 use Rattle.base.specs.Regions.{put}
 use Rattle.base.proofs.Elements.{all-append, all-getD, all-map}
-use Rattle.base.proofs.Regions.{length-put, put-before, put-in, put-after, lt-or-le}
-use Rattle.paper.specs.Sizes.{mostRecords, mostParts, mostStatements, room, longestFile, numberLimit}
-use Rattle.paper.specs.Tables.{Record, Table, RecordOk, TableOk, entries}
-use Rattle.paper.specs.Runs.{Statement, State, Run, asItem, initial, Sound}
-use Rattle.paper.specs.Files.{File, Read, got, fault, readFile, fileBytes, paddedFile}
+use Rattle.base.proofs.Regions.{put-before, put-in, put-after, lt-or-le}
+use Rattle.paper.specs.Sizes.{mostRecords, room, longestFile}
+use Rattle.paper.specs.Tables.{Record, RecordOk}
+use Rattle.paper.specs.Runs.{Statement, Run, asItem, initial, Sound}
+use Rattle.paper.specs.Files.{File, got, readFile, fileBytes, paddedFile}
 use Rattle.paper.specs.Reached.{StatementOk, FileOk}
 use Rattle.paper.specs.declared.Item.{Item}
-use Rattle.paper.specs.declared.Item.the-variants.{Statement as statement, Ask as ask, News as news}
-use Rattle.paper.proofs.Soundness.{loaded-sound}
-use Rattle.paper.proofs.RoundTrip.{written-read, read-written}
+use Rattle.paper.proofs.RoundTrip.{written-read}
 use Rattle.layout.specs.Offsets.{symbolBytes, cabinetsAt, countAt, ownersAt, memosAt, runBytes, recordFrom, itemFrom}
 use Rattle.layout.specs.Fields.{byteAt, bytesOf, countOf, tableOf, runOf}
 use Rattle.layout.specs.Soundness.{soundBytes}
 use Rattle.layout.specs.Changes.{withCount, bytesOfItem, appended, appendedAll, cleared, withSizes, withRecord, withRecords}
 use Rattle.layout.proofs.Frames.{Shaped}
-use Rattle.layout.proofs.Views.{appended-shaped, appended-count, written, written-long, room-left, item-long}
+use Rattle.layout.proofs.Views.{appended-shaped, appended-count, written, written-long, room-left}
 use Rattle.layout.proofs.SoundViews.{Bytes, tested, shaped, view-sound, canonical}
 use Rattle.layout.proofs.SameBytes.{same-view}
 use Rattle.statements.specs.Loads.{loadedBytes}
-use Rattle.statements.specs.Writes.{asLoaded, fileOf, Answer, answer, writtenBytes}
-use Rattle.statements.proofs.Loaded.{length-cleared, cleared-low, cleared-marks, cleared-rest, sized, sizes-fit, sized-filling, Filling, one-filled, row, fits, LoadedAs, loaded-as, loaded-bytes-sound, shaped as tabled-shaped, few-items, base, tabled}
+use Rattle.statements.specs.Writes.{asLoaded, fileOf, answer, writtenBytes}
+use Rattle.statements.proofs.Loaded.{length-cleared, cleared-low, cleared-marks, cleared-rest, sized, sizes-fit, sized-filling, Filling, one-filled, row, fits, loaded-as, loaded-bytes-sound, shaped as tabled-shaped, few-items, base, tabled}
 use Rattle.statements.proofs.AsLoaded.{AsLoadedBytes, as-loaded-out, as-loaded-in, as-loaded-run, as-loaded-ok, initial-as-loaded}
 
 -- a statement is its item

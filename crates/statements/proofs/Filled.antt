@@ -1,6 +1,6 @@
 -- Laws of filling a run from a file that was read: the turns of the two loops, and the ways out.
 use Prim.Native.Nat.{ℕ, suc, _+_, _-_, _≤_, _<_}
-use mathlib.Core.Path.{_≡_, refl, sym, ap, subst, _∙_}
+use mathlib.Core.Path.{_≡_, refl, sym, ap, _∙_}
 use mathlib.Core.List.{List, [], _∷_, map}
 use native.Mathlib.Omega.{arith}
 use lib.ListN.{length, take, drop, drop-of-length-le}
@@ -8,7 +8,6 @@ use lib.Seq.{length-take-le}
 use Rattle.base.specs.Regions.{put}
 use Rattle.base.proofs.Regions.{length-put}
 use Rattle.paper.specs.Sizes.{mostRecords, mostParts, numberLimit, room}
-use Rattle.paper.specs.Tables.{Record}
 use Rattle.paper.specs.Runs.{Statement, asItem}
 use Rattle.paper.specs.declared.Item.{Item}
 use Rattle.paper.specs.declared.Item.the-variants.{Statement as statement, Ask as ask, News as news}
@@ -17,16 +16,15 @@ use Rattle.layout.specs.Offsets.{runBytes, itemFrom}
 use Rattle.layout.specs.Fields.{countOf}
 use Rattle.layout.specs.Changes.{bytesOfItem, appended, appendedAll, withRecord, withRecords}
 use Rattle.layout.proofs.Views.{length-count, count-is}
-use Rattle.statements.specs.declared.reading.End.{End}
-use Rattle.statements.specs.declared.reading.End.the-variants.{At, Refused}
-use Rattle.statements.specs.declared.reading.RecordRead.{RecordRead}
-use Rattle.statements.specs.declared.reading.StatementRead.{StatementRead}
-use Rattle.statements.specs.Reads.{readTo, endOf, nextOf, WasRead, listOf, RecordFound, statementFormOf, statementRead}
-use Rattle.statements.proofs.Ends.{ended-at}
-use Rattle.statements.proofs.Times.{times-count}
-use Rattle.statements.proofs.Again.{LeftFrom, all-left, none-left, not-refused, value-again, left-again}
+use Rattle.reading.specs.declared.End.{End}
+use Rattle.reading.specs.declared.End.the-variants.{At, Refused}
+use Rattle.reading.specs.declared.RecordRead.{RecordRead}
+use Rattle.reading.specs.declared.StatementRead.{StatementRead}
+use Rattle.reading.specs.Reads.{readTo, nextOf, WasRead, listOf, RecordFound, statementFormOf, statementRead}
+use Rattle.reading.proofs.Times.{times-count}
+use Rattle.reading.proofs.RecordFinds.{symbol-small}
+use Rattle.statements.proofs.Again.{LeftFrom, all-left, not-refused, value-again, left-again}
 use Rattle.statements.proofs.Loaded.{written-long}
-use Rattle.statements.proofs.RecordFinds.{symbol-small}
 
 -- what was read
 pub was-read : {A : Type 0} (x : Read (List A)) → WasRead x → x ≡ got (listOf x) (nextOf x)

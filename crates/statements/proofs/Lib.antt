@@ -1,14 +1,4 @@
-pub mod Ends
-pub mod Onward
-pub mod Times
 pub mod Again
-pub mod SizesRead
-pub mod RecordFinds
-pub mod StatementReads
-pub mod FileStages
-pub mod FileChecks
-pub mod FileAccepted
-pub mod Spans
 pub mod Loaded
 pub mod AsLoaded
 pub mod BothWays

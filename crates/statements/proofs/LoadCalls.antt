@@ -1,6 +1,6 @@
 -- Laws of the call that loads: one for each way out, and what its callees ask of an accepted file.
 use Prim.Native.Nat.{ℕ, _+_, _≤_}
-use mathlib.Core.Path.{_≡_, refl, sym, ap, subst, _∙_}
+use mathlib.Core.Path.{_≡_, refl, ap, _∙_}
 use mathlib.Core.List.{List, map}
 use native.Mathlib.Omega.{arith}
 use borrow.Author.Tests.{eq-eqb, ne-eqb}
@@ -13,16 +13,15 @@ use Rattle.paper.specs.Tables.{Record}
 use Rattle.paper.specs.Runs.{Statement, asItem}
 use Rattle.paper.specs.Reached.{FileOk}
 use Rattle.paper.specs.Files.{times, recordForm, File, Read, got, fault, reading, readFile}
-use Rattle.paper.proofs.Forms.{fault-got}
 use Rattle.layout.specs.Offsets.{runBytes}
 use Rattle.layout.specs.Fields.{countOf}
 use Rattle.layout.specs.Changes.{cleared, withSizes, withRecords, appendedAll}
-use Rattle.statements.specs.declared.reading.End.the-variants.{At, Refused}
-use Rattle.statements.specs.declared.reading.Checked.{Checked}
-use Rattle.statements.specs.Reads.{WasRead, listOf, statementFormOf, checkedOf, checkedFile}
+use Rattle.reading.specs.declared.End.the-variants.{At, Refused}
+use Rattle.reading.specs.declared.Checked.{Checked}
+use Rattle.reading.specs.Reads.{WasRead, listOf, statementFormOf, checkedOf, checkedFile}
+use Rattle.reading.proofs.FileAccepted.{Accepted, accepted}
 use Rattle.statements.specs.Loads.{loadedBytes}
 use Rattle.statements.specs.Writes.{answer, loadedRead, loadBytes}
-use Rattle.statements.proofs.FileAccepted.{Accepted, accepted}
 use Rattle.statements.proofs.ReadValues.{file-ok}
 use Rattle.statements.proofs.Loaded.{sized, tabled, few-items}
 

@@ -3,32 +3,32 @@ use mathlib.Core.Path.{_≡_, refl, sym, subst, ap, ap₂, _∙_, fun-ext}
 use mathlib.Core.Logic.{_⊎_, inl, inr, ⊎-elim, _≢_}
 use mathlib.Core.Bool.{Bool, true, false, _&&_}
 use mathlib.Core.List.{List, [], _∷_, _++_, map}
-use mathlib.Core.Option.{Option, none, some}
-use Prim.Native.Nat.{ℕ, zero, suc, _+_, _-_, _*_, _/_, _%_, _^_, _≤_, _<_}
+use mathlib.Core.Option.{none}
+use Prim.Native.Nat.{ℕ, zero, suc, _+_, _-_, _*_, _/_, _^_, _≤_, _<_}
 use native.Mathlib.Nat.{pow-suc}
 use native.Mathlib.Decide.{ℕ-discrete}
 use native.Mathlib.Omega.{arith}
 use borrow.Author.Tests.{ltb-true}
 use lib.Dec.{ltb, eqb}
 use lib.ListN.{length, getD, replicate, length-replicate, getD-replicate, length-append, length-map, List·getD-append}
-use lib.Seq.{getD-append-add, ext-getD}
+use lib.Seq.{ext-getD}
 use Rattle.base.specs.Choice.{pick}
 use Rattle.base.specs.Lists.{listFrom, All}
-use Rattle.base.specs.Regions.{put, get}
+use Rattle.base.specs.Regions.{get}
 use Rattle.base.proofs.Tests.{fst-true, snd-true}
-use Rattle.base.proofs.Froms.{from-length, from-same}
+use Rattle.base.proofs.Froms.{from-same}
 use Rattle.base.proofs.Positions.{getD-past}
 use Rattle.base.proofs.Regions.{length-put, put-before, put-in, put-after, get-at, length-get, get-same, lt-or-le}
 use Rattle.paper.specs.Sizes.{mostCabinets, mostUnknowns, mostRecords, mostParts, room, numberLimit}
-use Rattle.paper.specs.Tables.{Record, Table, RecordOk, TableOk}
-use Rattle.paper.specs.Runs.{Mark, nothing, Statement, State, Run, asItem, initial, Sound}
+use Rattle.paper.specs.Tables.{Record, Table, RecordOk}
+use Rattle.paper.specs.Runs.{nothing, Run, asItem, initial, Sound}
 use Rattle.paper.specs.Files.{File}
 use Rattle.paper.specs.Reached.{FileOk}
 use Rattle.paper.proofs.Soundness.{loaded-sound}
-use Rattle.layout.specs.Offsets.{symbolBytes, recordBytes, itemBytes, clashAt, clashCabinetAt, cabinetsAt, unknownsAt, recordsAt, statementsAt, countAt, tableAt, ownersAt, storesAt, memosAt, pendingAt, runBytes, recordFrom, storeFrom, memoFrom, itemFrom}
+use Rattle.layout.specs.Offsets.{symbolBytes, recordBytes, clashAt, clashCabinetAt, cabinetsAt, recordsAt, countAt, tableAt, ownersAt, memosAt, runBytes, recordFrom, storeFrom, memoFrom}
 use Rattle.layout.specs.Fields.{byteAt, valueOf, bytesOf, clashOf, countOf, symbolOf, partCountOf, partOf, partsFrom, recordOf, recordsFrom, ownerMark, storeMark, ownerOf, markOf, pairOf, itemsFrom, tableOf, stateOf, runOf}
 use Rattle.layout.specs.Soundness.{soundBytes}
-use Rattle.layout.specs.Changes.{cleared, withSizes, withRecord, withRecords, appendedAll}
+use Rattle.layout.specs.Changes.{cleared, withSizes, withRecord, withRecords}
 use Rattle.layout.proofs.Frames.{Same, Shaped}
 use Rattle.layout.proofs.Views.{pendingNow, appended-all}
 use Rattle.layout.proofs.Canonical.{Canonical}

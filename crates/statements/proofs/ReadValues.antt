@@ -1,17 +1,17 @@
 -- What is read is in its ranges, whatever stands in the file.
 use Prim.Native.Nat.{ℕ}
-use mathlib.Core.Path.{_≡_, refl, sym, subst}
+use mathlib.Core.Path.{_≡_, refl, subst}
 use mathlib.Core.List.{List, [], _++_}
 use Rattle.numbers.proofs.Reading.{number-next}
 use Rattle.paper.specs.Numbers.{rangedAt, numberBytes}
 use Rattle.paper.specs.Reached.{FileOk}
-use Rattle.paper.specs.Files.{Form, end, next, fileForm, File, Read, got, fault, onward, reading, readFile}
+use Rattle.paper.specs.Files.{Form, end, next, fileForm, File, got, onward, reading, readFile}
 use Rattle.paper.specs.declared.Num.{Num}
 use Rattle.paper.specs.declared.Num.the-variants.{Got, Refused}
 use Rattle.paper.proofs.Forms.{fault-got, Spells, done, more}
 use Rattle.paper.proofs.NumberCodec.{Ranged, inside, ranged}
 use Rattle.paper.proofs.RoundTrip.{file-codec}
-use Rattle.statements.proofs.FileAccepted.{ended-got}
+use Rattle.reading.proofs.FileAccepted.{ended-got}
 
 -- some bytes spell it
 spelt : {A : Type 0} (s : List ℕ) (m : Form A) (at : ℕ) (a : A) (to : ℕ) → reading m s at ≡ got a to → (b : List ℕ) × Spells m b a

@@ -1,16 +1,14 @@
 -- Laws of the call that writes: the table, the file, and one law for each way out.
 use Prim.Native.Nat.{ℕ, _+_, _-_, _≤_, _<_}
 use mathlib.Core.Path.{_≡_, refl, sym, ap, subst, _∙_}
-use mathlib.Core.Bool.{Bool, true, false, not, _&&_}
+use mathlib.Core.Bool.{Bool, true, false, not}
 use mathlib.Core.List.{List, _++_, append-assoc}
 use native.Mathlib.Omega.{arith}
 use native.Mathlib.Nat.{zero-add}
 use borrow.Author.Tests.{eq-eqb, ne-eqb, not-true, not-false}
-use lib.Dec.{eqb}
 use lib.ListN.{length, replicate, length-append, length-replicate}
 use mir.Syntax.{w8}
 use mir.Val.{Fits}
-use Rattle.base.specs.Choice.{pick}
 use Rattle.base.specs.Lists.{listFrom}
 use Rattle.base.specs.Regions.{put}
 use Rattle.base.proofs.Froms.{from-length}

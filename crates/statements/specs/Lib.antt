@@ -1,3 +1,2 @@
-pub mod Reads
 pub mod Loads
 pub mod Writes

@@ -1,5 +1,5 @@
 -- What writing takes from a run's bytes: when a sound run is as loaded, the file that it is, and what the call leaves.
-use mathlib.Core.Bool.{Bool, true, false, _&&_}
+use mathlib.Core.Bool.{Bool, _&&_}
 use mathlib.Core.List.{List, _++_}
 use mathlib.Core.Path.{_≡_}
 use Prim.Native.Nat.{ℕ, _+_, _-_, _≤_}

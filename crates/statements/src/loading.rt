@@ -1,9 +1,9 @@
 // Loading: the whole file is checked first, and only then read again into the run, so that a refused file leaves every byte.
-use super::reading::End;
-use super::reading::check_file;
-use super::reading::read_record;
-use super::reading::read_statement;
 use paper::Item;
+use reading::End;
+use reading::check_file;
+use reading::read_record;
+use reading::read_statement;
 ghost use mathlib.Core.Path.{_≡_};
 ghost use mathlib.Core.List.{map};
 ghost use Prim.Native.Nat.{_+_, _≤_};
@@ -14,7 +14,7 @@ ghost use Rattle.paper.specs.Files.{times, recordForm, reading};
 ghost use Rattle.layout.specs.Offsets.{runBytes};
 ghost use Rattle.layout.specs.Fields.{countOf};
 ghost use Rattle.layout.specs.Changes.{withRecords, appendedAll};
-ghost use Rattle.statements.specs.Reads.{WasRead, listOf, statementFormOf};
+ghost use Rattle.reading.specs.Reads.{WasRead, listOf, statementFormOf};
 ghost use Rattle.statements.specs.Writes.{answer, loadBytes};
 
 // The paper's refusal 12, wrongLength.

@@ -9,7 +9,7 @@ ghost use Rattle.paper.specs.Numbers.{numberBytes};
 ghost use Rattle.paper.specs.Files.{each, recordBytes, statementBytes, tableBytes, fileBytes, paddedFile};
 ghost use Rattle.layout.specs.Offsets.{runBytes};
 ghost use Rattle.layout.specs.Given.{Reads, byteLimit};
-ghost use Rattle.layout.specs.Fields.{byteAt, partCountOf, partsFrom, recordOf, recordsFrom, tableOf};
+ghost use Rattle.layout.specs.Fields.{partCountOf, partsFrom, recordOf, recordsFrom, tableOf};
 ghost use Rattle.layout.specs.Soundness.{soundBytes};
 ghost use Rattle.statements.specs.Writes.{allAre, allStatements, asLoaded, statementAt, fileOf, sizesBytes, PutFrom, FilePut, answer, writtenBytes};
 

@@ -1,0 +1,10 @@
+pub mod Ends
+pub mod Onward
+pub mod Times
+pub mod SizesRead
+pub mod RecordFinds
+pub mod StatementReads
+pub mod FileStages
+pub mod FileChecks
+pub mod FileAccepted
+pub mod Spans
