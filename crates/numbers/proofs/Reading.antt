@@ -58,6 +58,11 @@ module _ (left top least : ℕ) (s : List ℕ) (from at : ℕ) where
         pub more-refused : (k p : ℕ) → x ≡ Refused k p → x ≡ groupsFrom left top least s from at
         more-refused k p g = g ∙ ap (above (b % 128)) (sym g) ∙ another-follows
 
+-- a number of one group
+pub one-group-read : (s : List ℕ) (at b : ℕ) → at < length s → b ≡ getD s at 0 → b < 128 → Got b (at + 1) ≡ numberAt s at
+unfolding numberAt
+one-group-read s at b inside e h = group-ends mostGroups topGroup 0 s at at (omega arith) inside b e 127 refl h (omega arith) (omega arith)
+
 -- the way out of `largest_end` where a group may follow
 pub not-the-last : (k top : ℕ) → (k ≡ 0 → ⊥) → 127 ≡ largest k top
 not-the-last zero top n = absurd (n refl)

@@ -63,10 +63,16 @@ fn groups_from(s: &[u8], from: usize, at: usize, left: usize, least: u64) -> Num
     Num::Got(group % 128 + 128 * n, next)
 }
 
-// The number at `at`.
+// The number at `at`. Most have one group: these are read at once.
 pub fn number_at(s: &[u8], at: usize) -> Num
     ensures { λ r. ⌜ r ≡ numberAt (now (s .entry)) at ⌝ }
 {
+    if at < s.len() {
+        let only = wide(s[at]);
+        if only < 128 {
+            return Num::Got(only, at + 1);
+        }
+    }
     groups_from(s, at, at, MOST_GROUPS, 0)
 }
 
