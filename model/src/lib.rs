@@ -5,6 +5,7 @@
 //! [`steps`], [`map()`] and [`write`]. Each is total: it gives a reply for every input and never panics.
 //! Inside, a run is the structured [`Run`], which steps in place and is fast enough for the longest runs.
 
+pub mod alike;
 pub mod file;
 pub mod map;
 pub mod numbers;

@@ -1,6 +1,7 @@
-//! The map, made in two independent ways: from a run's owner marks, and from the statements alone.
+//! The map, made in two independent ways: from a run's owner marks, and from the statements alone by their union-find.
 
-use crate::file::{self, Fault, File, Record};
+use crate::alike::Alike;
+use crate::file::{self, Fault, Record};
 use crate::refusal::*;
 use crate::run::{Run, RUN_LENGTH};
 
@@ -50,18 +51,10 @@ pub fn of_run(run: &Run) -> Result<Map, usize> {
 pub fn from_statements(file: &[u8]) -> Result<Option<Map>, Fault> {
     let file = file::read(file)?;
     let v = usize::from(file.v);
-    let alike = alike(&file);
-    for (first, one) in file.records.iter().enumerate() {
-        for (second, other) in file.records.iter().enumerate() {
-            if alike[v + first] == alike[v + second] && !same_shape(one, other) {
-                return Ok(None);
-            }
-        }
-    }
-    let end = |x: usize| match (v..alike.len()).find(|&record| alike[record] == alike[x]) {
-        Some(record) => End::Record(record - v),
-        None => End::Open(alike[x]),
+    let Some(alike) = Alike::of(&file) else {
+        return Ok(None);
     };
+    let end = |x: usize| alike.record(x).map_or(End::Open(alike.root(x)), End::Record);
     let ends: Vec<End> = (0..v).map(end).collect();
     let mut questions = Questions { records: &file.records, ends: &ends, answers: vec![None; v * v * (v + 1)] };
     let mut same = vec![vec![false; v]; v];
@@ -143,46 +136,6 @@ impl Questions<'_> {
         }
         true
     }
-}
-
-/// The least equivalence on entries that the statements ask for, as one number for each entry, equal exactly for
-/// alike entries.
-fn alike(file: &File) -> Vec<usize> {
-    let v = usize::from(file.v);
-    let mut class: Vec<usize> = (0..v + file.records.len()).collect();
-    for statement in &file.statements {
-        join(&mut class, usize::from(statement.left), usize::from(statement.right));
-    }
-    // Joining parts may make further records alike: go round until nothing is joined.
-    let mut joined = true;
-    while joined {
-        joined = false;
-        for (first, one) in file.records.iter().enumerate() {
-            for (second, other) in file.records.iter().enumerate() {
-                if class_of(&class, v + first) == class_of(&class, v + second) && same_shape(one, other) {
-                    for (&p, &q) in one.parts.iter().zip(&other.parts) {
-                        joined |= join(&mut class, usize::from(p), usize::from(q));
-                    }
-                }
-            }
-        }
-    }
-    (0..class.len()).map(|entry| class_of(&class, entry)).collect()
-}
-
-fn class_of(class: &[usize], entry: usize) -> usize {
-    let mut at = entry;
-    while class[at] != at {
-        at = class[at];
-    }
-    at
-}
-
-/// Makes two entries alike; true when they were not so before.
-fn join(class: &mut [usize], one: usize, other: usize) -> bool {
-    let (one, other) = (class_of(class, one), class_of(class, other));
-    class[one] = other;
-    one != other
 }
 
 /// The 32 rows of the map, given where each unknown leads and which unknowns are the same item.
