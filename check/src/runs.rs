@@ -50,12 +50,17 @@ fn sound(held: &mut Held) {
     }
 }
 
-/// A run made by hand with something in each region and room for more.
-fn varied(rng: &mut Rng) -> Vec<u8> {
+/// A run made by hand, clashed or not, with something in each region and room for more.
+fn varied(rng: &mut Rng, clashed: bool) -> Vec<u8> {
     loop {
         let run = samples::hand_made(rng).to_bytes();
         let (s, v, r) = (run[2], run[3], run[4]);
-        if (2..8).contains(&s) && (3..32).contains(&v) && (2..64).contains(&r) && (4..100).contains(&pending(&run)) {
+        if run[0] == u8::from(clashed)
+            && (2..8).contains(&s)
+            && (3..32).contains(&v)
+            && (2..64).contains(&r)
+            && (4..100).contains(&pending(&run))
+        {
             return run;
         }
     }
@@ -64,8 +69,8 @@ fn varied(rng: &mut Rng) -> Vec<u8> {
 /// One byte of a sound run changed, at each position and to the values that matter there: most are no longer sound.
 fn one_byte_changed(held: &mut Held) {
     let mut rng = held.kind("runs by hand, one byte changed");
-    for _ in 0..held.rounds(1) {
-        let run = varied(&mut rng);
+    for round in 0..held.rounds(2) {
+        let run = varied(&mut rng, round % 2 == 1);
         let (s, v, entries) = (run[2], run[3], run[3] + run[4]);
         let used = ITEMS..ITEMS + 4 * pending(&run);
         let all: Vec<u8> = (0..=255).collect();
@@ -117,7 +122,7 @@ fn full(held: &mut Held) {
         }
     }
     for _ in 0..held.rounds(200) {
-        let run = varied(&mut rng);
+        let run = varied(&mut rng, false);
         let items: Vec<[u8; 4]> = (0..pending(&run)).map(|place| item(&run, place)).collect();
         let run = filled(&run, &items, MOST_ITEMS - rng.below(5));
         let places = places(&mut rng, pending(&run), 40);
