@@ -28,8 +28,16 @@ impl Held {
     /// Starts the next kind. Its draws depend on the seed and the kind's name alone, so that one kind can change without
     /// the others.
     pub fn kind(&mut self, name: &'static str) -> Rng {
+        self.close();
         self.kinds.push((name, 0));
         Rng::new(self.seed ^ model::vectors::hash(name.as_bytes()))
+    }
+
+    /// Prints the row of the kind that has come to its end, if there is one.
+    pub fn close(&self) {
+        if let Some((name, count)) = self.kinds.last() {
+            println!("{count:>9}  {name}");
+        }
     }
 
     /// How many rounds a kind makes: more in the long mode.

@@ -33,6 +33,7 @@ fn main() -> ExitCode {
     maps::hold(&mut held);
     writes::hold(&mut held);
     stack::hold(&mut held);
+    held.close();
     report(&held);
     println!("{:.1} s", started.elapsed().as_secs_f64());
     ExitCode::SUCCESS
@@ -49,12 +50,9 @@ fn asked(words: &[&str]) -> Option<(u64, bool)> {
     }
 }
 
-/// How many comparisons of each kind there were, and how often each number was given. A number never given is a gap in
-/// the samples, and as bad as a difference.
+/// How often each number was given, and how many comparisons there were. A number never given is a gap in the samples, and
+/// as bad as a difference.
 fn report(held: &Held) {
-    for (name, count) in held.kinds() {
-        println!("{count:>9}  {name}");
-    }
     let numbers = held.numbers().iter().enumerate();
     let given: Vec<String> = numbers.map(|(number, count)| format!("{number}: {count}")).collect();
     println!("numbers given, {}", given.join(", "));

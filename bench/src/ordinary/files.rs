@@ -1,7 +1,7 @@
 //! The statement file: read into what a run will hold, statement n found in it, and written back.
 
 use super::layout::*;
-use super::soundness::sound;
+use super::soundness::{sound, zeros};
 
 /// A refusal and where the faulty number starts.
 type Fault = (usize, usize);
@@ -138,7 +138,7 @@ fn as_loaded(run: &[u8]) -> bool {
     run[0] == 0
         && pending(run) == e
         && run[OWNERS..MEMOS].iter().all(|&mark| mark == NOTHING)
-        && run[MEMOS..ITEMS].iter().all(|&byte| byte == 0)
+        && zeros(&run[MEMOS..ITEMS])
         && run[ITEMS..ITEMS + ITEM_BYTES * e].chunks_exact(ITEM_BYTES).all(|item| item[0] == STATEMENT)
 }
 
