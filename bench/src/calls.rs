@@ -59,11 +59,10 @@ pub fn load(bytes: &[u8]) -> Times {
 }
 
 fn statement(bytes: &[u8], n: usize) -> Times {
-    let times = in_turns(500, |calls| {
-        nanoseconds(|| (0..BATCH).map(|_| (calls.statement)(std::hint::black_box(bytes), n).0).sum::<usize>())
-    });
-    let batch = BATCH as f64;
-    Times { library: times.library / batch, ordinary: times.ordinary / batch }
+    in_turns(500, |calls| {
+        let batch = || (0..BATCH).map(|_| (calls.statement)(std::hint::black_box(bytes), n).0).sum::<usize>();
+        nanoseconds(batch) / BATCH as f64
+    })
 }
 
 fn step(before: &[u8], place: usize) -> Times {
@@ -78,9 +77,7 @@ pub fn list(before: &[u8], places: &[u32], rounds: usize) -> Times {
     let mut run = before.to_vec();
     in_turns(rounds, |calls| {
         run.copy_from_slice(before);
-        let time =
-            nanoseconds(|| assert_eq!((calls.steps)(&mut run, places), (0, places.len()), "every place is ready"));
-        time
+        nanoseconds(|| assert_eq!((calls.steps)(&mut run, places), (0, places.len()), "every place is ready"))
     })
 }
 

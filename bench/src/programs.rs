@@ -1,6 +1,6 @@
 //! The map program against the ordinary one, each a whole process: started, given the file, waited for.
 
-use crate::timing::{median, nanoseconds, Times};
+use crate::timing::{nanoseconds, Times};
 use std::fs::File;
 use std::io;
 use std::path::Path;
@@ -17,10 +17,6 @@ fn printed(program: &Path, input: &Path) -> io::Result<Vec<u8>> {
 /// The two programs in turns on the file at `input`; they must print the same.
 pub fn in_turns(mapper: &Path, ordinary: &Path, input: &Path) -> io::Result<Times> {
     assert!(printed(mapper, input)? == printed(ordinary, input)?, "both programs print the same");
-    let (mut ours, mut theirs) = (Vec::new(), Vec::new());
-    for _ in 0..ROUNDS {
-        ours.push(nanoseconds(|| printed(mapper, input)));
-        theirs.push(nanoseconds(|| printed(ordinary, input)));
-    }
-    Ok(Times { library: median(&mut ours), ordinary: median(&mut theirs) })
+    let round = |_| (nanoseconds(|| printed(mapper, input)), nanoseconds(|| printed(ordinary, input)));
+    Ok(Times::of(&(0..ROUNDS).map(round).collect::<Vec<_>>()))
 }
