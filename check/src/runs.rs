@@ -82,7 +82,8 @@ fn one_byte_changed(held: &mut Held) {
         changed(held, &mut rng, &run, MARKS, 1, &mark);
         changed(held, &mut rng, &run, MEMOS, 1, &[0, 1, 2]);
         changed(held, &mut rng, &run, used.clone(), 1, &side);
-        let apart = if held.long { 1 } else { 13 };
+        // The bytes after the last item are many, and all alike: each of them in the long mode alone, and there twice.
+        let apart = if held.long && round < 2 { 1 } else { 13 };
         let value = 1 + rng.below(255) as u8;
         changed(held, &mut rng, &run, used.end..RUN_LENGTH, apart, &[1, value]);
         changed(held, &mut rng, &run, RUN_LENGTH - 8..RUN_LENGTH, 1, &[1, value]);
