@@ -30,7 +30,7 @@ impl Held {
     pub fn kind(&mut self, name: &'static str) -> Rng {
         self.close();
         self.kinds.push((name, 0));
-        Rng::new(self.seed ^ model::vectors::hash(name.as_bytes()))
+        Rng::new(self.seed ^ hash(name.as_bytes()))
     }
 
     /// Prints the row of the kind that has come to its end, if there is one.
@@ -179,7 +179,12 @@ impl Held {
 
 /// A run in short: its first bytes and a hash of all. The seed makes it again.
 fn told(run: &[u8]) -> String {
-    format!("a run that starts {:02x?}, hash {}", &run[..run.len().min(8)], model::vectors::hash(run))
+    format!("a run that starts {:02x?}, hash {}", &run[..run.len().min(8)], hash(run))
+}
+
+/// FNV-1a of 64 bits.
+fn hash(bytes: &[u8]) -> u64 {
+    bytes.iter().fold(0xCBF2_9CE4_8422_2325, |hash, &byte| (hash ^ u64::from(byte)).wrapping_mul(0x0100_0000_01B3))
 }
 
 /// A run's length of bytes that are no run.
