@@ -87,10 +87,10 @@ module _ (w at i : ℕ) (d : List ℕ) (low : at ≤ i) (high : i + w ≤ length
       (put-in at (get (at + w) (i - at) d) d (rw moved-length (omega arith)) (k - at) (rw moved-length (omega arith))
       ∙ get-at (at + w) (i - at) d (omega arith) (k - at) (omega arith) ∙ ap (λ (m : ℕ). getD d m 0) f)
 
-pub shift-none : (w at : ℕ) (d : List ℕ) → at + w ≤ length d → d ≡ shifted w at at d
+shift-none : (w at : ℕ) (d : List ℕ) → at + w ≤ length d → d ≡ shifted w at at d
 shift-none w at d h = paste-zero d at (drop (at + w) d) ∙ ap (paste d at (drop (at + w) d)) (sym (sub-self at)) ∙ sym (shifted-paste w at at d (omega arith) h)
 
-pub shift-step : (w at i : ℕ) (d : List ℕ) → at ≤ i → i + w < length d
+shift-step : (w at i : ℕ) (d : List ℕ) → at ≤ i → i + w < length d
     → set (shifted w at i d) i (getD (shifted w at i d) (i + w) 0) ≡ shifted w at (i + 1) d
 shift-step w at i d h1 h2 =
     let s : List ℕ = drop (at + w) d in
@@ -104,16 +104,24 @@ shift-step w at i d h1 h2 =
     (subst (λ (m : ℕ). set (paste d at s (i - at)) m (getD s (i - at) 0) ≡ paste d at s (i + 1 - at)) e
     (paste-suc d at s (i - at) 0 (omega arith) (rw length-drop (omega arith)) ∙ ap (paste d at s) n)))
 
--- what a loop that closes a gap asks, with premises as they stand in code
-pub shift-again : (w at i e : ℕ) (d run : List ℕ) → at ≤ i → i < e - w → e ≤ length d → run ≡ shifted w at i d
-    → set run i (getD run (i + w) 0) ≡ shifted w at (i + 1) d
-shift-again w at i e d run h1 h2 h3 q = rw q (shift-step w at i d h1 (omega arith))
+-- what a loop that closes a gap asks, with premises as they stand in code: i bytes have moved
+pub shift-start : (w at : ℕ) (d : List ℕ) → at + w ≤ length d → d ≡ shifted w at (at + 0) d
+shift-start w at d h = let z : at ≡ at + 0 = omega arith in subst (λ (m : ℕ). d ≡ shifted w at m d) z (shift-none w at d h)
 
-pub gone-made : (w at i e : ℕ) (d run out : List ℕ) → i ≤ e - w → e - w ≤ i → run ≡ shifted w at i d
+pub shift-again : (w at i e : ℕ) (d run : List ℕ) → i < e - w - at → e ≤ length d → run ≡ shifted w at (at + i) d
+    → set run (at + i) (getD run (at + w + i) 0) ≡ shifted w at (at + (i + 1)) d
+shift-again w at i e d run h1 h2 q =
+    let a : at + i + w ≡ at + w + i = omega arith in
+    let b : at + i + 1 ≡ at + (i + 1) = omega arith in
+    subst (λ (m : ℕ). set run (at + i) (getD run m 0) ≡ shifted w at (at + (i + 1)) d) a
+    (subst (λ (m : ℕ). set run (at + i) (getD run (at + i + w) 0) ≡ shifted w at m d) b
+    (rw q (shift-step w at (at + i) d (omega arith) (omega arith))))
+
+pub gone-made : (w at i e : ℕ) (d run out : List ℕ) → at + w ≤ e → i ≤ e - w - at → e - w - at ≤ i → run ≡ shifted w at (at + i) d
     → out ≡ put (e - w) (replicate w 0) run → out ≡ gone w at e d
 unfolding gone
-gone-made w at i e d run out h1 h2 q o =
-    let n : i ≡ e - w = omega arith in
+gone-made w at i e d run out h h1 h2 q o =
+    let n : at + i ≡ e - w = omega arith in
     o ∙ ap (put (e - w) (replicate w 0)) (q ∙ ap (λ (m : ℕ). shifted w at m d) n)
 
 -- a gap that was closed

@@ -61,9 +61,11 @@ fn close_gap(run: &mut [u8], at: usize, end: usize)
     ensures { λ _. ⌜ now (run .exit) ≡ gone itemBytes at end (now (run .entry)) ⌝ }
 {
     let stop = end - offsets::ITEM_BYTES;
-    let mut i = at;
-    while i < stop {
-        run[i] = run[i + offsets::ITEM_BYTES];
+    let n = stop - at;
+    // Counted from 0, the compiler makes one move of the whole loop.
+    let mut i = 0;
+    while i < n {
+        run[at + i] = run[at + offsets::ITEM_BYTES + i];
         i += 1;
     }
     put4(run, stop, 0, 0, 0, 0);
