@@ -16,12 +16,12 @@ use Rattle.base.proofs.Regions.{length-put, put-before, length-get, length-gone
 use Rattle.paper.specs.Sizes.{mostCabinets, mostUnknowns, mostParts, room}
 use Rattle.paper.specs.Rules.{partStatements, newsTo}
 use Rattle.paper.specs.declared.Item.{Item}
-use Rattle.paper.specs.declared.Item.the-variants.{Statement, Ask, News}
+use Rattle.paper.specs.declared.Item.the-variants.{Statement, News}
 use Rattle.layout.specs.Offsets.{itemBytes, unknownsAt, ownersAt, runBytes, storeFrom, memoFrom, itemFrom}
 use Rattle.layout.specs.Fields.{byteAt, countOf, partOf, partsFrom}
-use Rattle.layout.specs.Changes.{bytesOfItem, removedAt, appended, appendedAll, storeOf, withStore, withOwner, withPair, withClash}
+use Rattle.layout.specs.Changes.{removedAt, appended, appendedAll, storeOf, withStore, withOwner, withPair, withClash}
 use Rattle.layout.specs.Given.{Reads, byteLimit}
-use Rattle.layout.proofs.Views.{length-count, count-is}
+use Rattle.layout.proofs.Views.{length-count, count-is, appended-long, appended-count}
 use Rattle.effects.specs.Changes.{nothing, mark, pair, applied}
 use Rattle.effects.specs.Given.{Fits, Room, elementsFrom}
 
@@ -47,24 +47,6 @@ module _ (d : List ℕ) (p n : ℕ) (f : Fits d p n) where
   unfolding removedAt
   removed-count =
       count-is (countOf d - 1) (gone itemBytes (itemFrom p) (itemFrom (countOf d)) d) (omega (arith, gap-long, f .long)) (omega (arith, f .count))
-
--- the same after one came
-item-long : (j : Item) → length (bytesOfItem j) ≡ itemBytes
-item-long (Statement c a b) = refl
-item-long (Ask c x u) = refl
-item-long (News c x u) = refl
-
-module _ (d : List ℕ) (j : Item) (h : length d ≡ runBytes) (g : countOf d < room) where
-  written-long : length (put (itemFrom (countOf d)) (bytesOfItem j) d) ≡ length d
-  written-long = length-put (itemFrom (countOf d)) (bytesOfItem j) d (omega (arith, item-long j))
-
-  appended-long : length (appended j d) ≡ runBytes
-  unfolding appended
-  appended-long = length-count (countOf d + 1) (put (itemFrom (countOf d)) (bytesOfItem j) d) (omega (arith, written-long)) ∙ written-long ∙ h
-
-  appended-count : countOf (appended j d) ≡ countOf d + 1
-  unfolding appended
-  appended-count = count-is (countOf d + 1) (put (itemFrom (countOf d)) (bytesOfItem j) d) (omega (arith, written-long)) (omega arith)
 
 -- room for one product, and for each of two
 module _ (d e : List ℕ) (p : ℕ) (q : e ≡ removedAt p d) where

@@ -87,7 +87,7 @@ module _ (d : List ℕ) (s : Shaped d) (z : Canonical d) where
       beside d (appended j d) s z (appended-low d s j h) (λ i a b. appended-mid d s j h i a (omega arith)) kinds items
     where
       count : countOf (appended j d) ≡ countOf d + 1
-      count = appended-count d s j h
+      count = appended-count d j (s .long) h
 
       kind : (k : Item) → (1 ≤ getD (bytesOfItem k) 0 0) × (getD (bytesOfItem k) 0 0 ≤ 3)
       kind (statement c a b) = (omega arith, omega arith)
@@ -114,7 +114,7 @@ module _ (d : List ℕ) (s : Shaped d) (z : Canonical d) where
       items : (i : ℕ) → itemFrom (countOf (appended j d)) ≤ i → i < runBytes → byteAt (appended j d) i ≡ 0
       items i a b =
           count-after (countOf d + 1) (written d s j h) (omega (arith, written-long d s j h, s .long)) i (omega arith)
-          ∙ put-after (itemFrom (countOf d)) (bytesOfItem j) d (room-left d s j h) i (omega (arith, item-long d s j h, count))
+          ∙ put-after (itemFrom (countOf d)) (bytesOfItem j) d (room-left d s j h) i (omega (arith, item-long j, count))
           ∙ z .items i (omega (arith, count)) b
 
 -- items come, in order
@@ -122,7 +122,7 @@ pub appended-all-canonical : (js : List Item) (d : List ℕ) → Shaped d → Ca
 appended-all-canonical [] d s z h = z
 appended-all-canonical (j ∷ js) d s z h =
     let l : countOf d < room = omega arith in
-    appended-all-canonical js (appended j d) (appended-shaped d s j l) (appended-canonical d s z j l) (omega (arith, appended-count d s j l))
+    appended-all-canonical js (appended j d) (appended-shaped d s j l) (appended-canonical d s z j l) (omega (arith, appended-count d j (s .long) l))
 
 -- a change between the table and the pending items
 module _ (d d′ : List ℕ) (s : Shaped d) (z : Canonical d) where

@@ -6,4 +6,5 @@ pub mod CanonicalKept
 pub mod SameBytes
 pub mod FieldLaws
 pub mod ChangeLaws
+pub mod Putting
 pub mod ViewedFields

@@ -56,6 +56,24 @@ module _ (n : ℕ) (d : List ℕ) (long : 8 ≤ length d) where
       let b : byteAt (put countAt (bytesOf 2 n) d) 7 ≡ n / 256 % 256 = put-in countAt (bytesOf 2 n) d long 1 (omega arith) in
       rw (a, b) (omega arith)
 
+-- an item comes to bytes of a run's length: the length stays, and the count is one more
+pub item-long : (j : Item) → length (bytesOfItem j) ≡ itemBytes
+item-long (statement c a b) = refl
+item-long (ask c x u) = refl
+item-long (news c x u) = refl
+
+module _ (d : List ℕ) (j : Item) (long : length d ≡ runBytes) (h : countOf d < room) where
+  item-put : length (put (itemFrom (countOf d)) (bytesOfItem j) d) ≡ length d
+  item-put = length-put (itemFrom (countOf d)) (bytesOfItem j) d (omega (arith, item-long j))
+
+  pub appended-long : length (appended j d) ≡ runBytes
+  unfolding appended
+  appended-long = length-count (countOf d + 1) (put (itemFrom (countOf d)) (bytesOfItem j) d) (omega (arith, item-put)) ∙ item-put ∙ long
+
+  pub appended-count : countOf (appended j d) ≡ countOf d + 1
+  unfolding appended
+  appended-count = count-is (countOf d + 1) (put (itemFrom (countOf d)) (bytesOfItem j) d) (omega (arith, item-put)) (omega arith)
+
 -- what changes neither the table nor the state nor E: bytes 0 to 5 and 8 up to the pending items
 module _ (d d′ : List ℕ) (s : Shaped d) (long : length d′ ≡ runBytes) (low : Same 0 countAt d d′) (mid : Same tableAt pendingAt d d′) where
   pub beside-table : tableOf d′ ≡ tableOf d
@@ -161,16 +179,8 @@ module _ (d : List ℕ) (s : Shaped d) where
 
   -- an item comes
   module _ (j : Item) (h : countOf d < room) where
-    pub item-long : length (bytesOfItem j) ≡ itemBytes
-    item-long = go j
-      where
-        go : (k : Item) → length (bytesOfItem k) ≡ itemBytes
-        go (statement c a b) = refl
-        go (ask c x u) = refl
-        go (news c x u) = refl
-
     pub room-left : itemFrom (countOf d) + length (bytesOfItem j) ≤ length d
-    room-left = omega (arith, item-long, s .long)
+    room-left = omega (arith, item-long j, s .long)
 
     unfoldable pub written : List ℕ
     written = put (itemFrom (countOf d)) (bytesOfItem j) d
@@ -178,10 +188,6 @@ module _ (d : List ℕ) (s : Shaped d) where
     pub written-long : length written ≡ length d
     unfolding written
     written-long = length-put (itemFrom (countOf d)) (bytesOfItem j) d room-left
-
-    appended-long : length (appended j d) ≡ runBytes
-    unfolding appended written
-    appended-long = length-count (countOf d + 1) written (omega (arith, written-long, s .long)) ∙ written-long ∙ s .long
 
     pub appended-low : Same 0 countAt d (appended j d)
     unfolding appended written
@@ -200,11 +206,7 @@ module _ (d : List ℕ) (s : Shaped d) where
     unfolding appended written
     appended-in k l =
         count-after (countOf d + 1) written (omega (arith, written-long, s .long)) (itemFrom (countOf d) + k) (omega arith)
-        ∙ put-in (itemFrom (countOf d)) (bytesOfItem j) d room-left k (omega (arith, item-long))
-
-    pub appended-count : countOf (appended j d) ≡ countOf d + 1
-    unfolding appended written
-    appended-count = count-is (countOf d + 1) written (omega (arith, written-long, s .long)) (omega arith)
+        ∙ put-in (itemFrom (countOf d)) (bytesOfItem j) d room-left k (omega (arith, item-long j))
 
     decoded : itemAt (appended j d) (countOf d) ≡ j
     unfolding itemAt
@@ -222,7 +224,7 @@ module _ (d : List ℕ) (s : Shaped d) where
     appended-items =
         let one : countOf d + 1 ≡ suc (countOf d) = omega arith in
         let zero-plus : 0 + countOf d ≡ countOf d = omega arith in
-        rw (appended-count, one)
+        rw (appended-count d j (s .long) h, one)
         (from-last (itemAt (appended j d)) (countOf d) 0
         ∙ ap₂ (λ (l : List Item) (k : Item). l ++ (k ∷ []))
         (items-same d (appended j d) (countOf d) 0 (λ i a b. appended-mid i (omega arith) (omega arith)))
@@ -230,15 +232,17 @@ module _ (d : List ℕ) (s : Shaped d) where
 
     pub appended-shaped : Shaped (appended j d)
     appended-shaped =
-        beside-shaped d (appended j d) s appended-long appended-low (λ i a b. appended-mid i a (omega arith)) (omega (arith, appended-count))
+        beside-shaped d (appended j d) s (appended-long d j (s .long) h) appended-low (λ i a b. appended-mid i a (omega arith))
+        (omega (arith, appended-count d j (s .long) h))
 
     pub appended-table : tableOf (appended j d) ≡ tableOf d
-    appended-table = beside-table d (appended j d) s appended-long appended-low (λ i a b. appended-mid i a (omega arith))
+    appended-table = beside-table d (appended j d) s (appended-long d j (s .long) h) appended-low (λ i a b. appended-mid i a (omega arith))
 
     pub appended-run : runOf (appended j d) ≡ pendingNow (runOf d) (runOf d .pending ++ (j ∷ []))
     unfolding runOf
     appended-run =
-        beside-run d (appended j d) s appended-long appended-low (λ i a b. appended-mid i a (omega arith)) (itemsFrom d (countOf d) 0 ++ (j ∷ [])) appended-items
+        beside-run d (appended j d) s (appended-long d j (s .long) h) appended-low (λ i a b. appended-mid i a (omega arith))
+        (itemsFrom d (countOf d) 0 ++ (j ∷ [])) appended-items
 
 -- items come, in order
 pub record Appended (d : List ℕ) (js : List Item) (d′ : List ℕ) : Type 0 where
@@ -257,7 +261,7 @@ appended-all [] d s h =
     }
 appended-all (j ∷ js) d s h =
     let l : countOf d < room = omega arith in
-    let c = appended-count d s j l in
+    let c = appended-count d j (s .long) l in
     let w = appended-all js (appended j d) (appended-shaped d s j l) (omega arith) in
     record {
       shaped = w .shaped;

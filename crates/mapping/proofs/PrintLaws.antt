@@ -27,7 +27,7 @@ use Rattle.statements.proofs.Loaded.{loaded-as, loaded-bytes-sound}
 use Rattle.rules.proofs.Bridge.{ready-sound}
 use Rattle.maps.specs.Bytes.{Mapped, mapped, drawnMap, mapBytesOf}
 use Rattle.drawing.specs.Draws.{drawnBytes}
-use Rattle.printing.specs.Puts.{PutFrom}
+use Rattle.layout.specs.Puts.{PutFrom}
 use Rattle.printing.specs.Prints.{mapPrinted}
 use Rattle.printing.proofs.MapText.{map-printed}
 use Rattle.promises.specs.FromFiles.{Accepted, FromFile, HasClashed, NothingPending, AtEnd}

@@ -11,7 +11,7 @@ ghost use Rattle.layout.specs.Fields.{tableOf, runOf, clashOf};
 ghost use Rattle.layout.specs.Soundness.{soundBytes};
 ghost use Rattle.promises.specs.FromFiles.{AtEnd};
 ghost use Rattle.mapping.specs.Runs.{Ran};
-ghost use Rattle.printing.specs.Puts.{PutFrom};
+ghost use Rattle.layout.specs.Puts.{PutFrom};
 ghost use Rattle.printing.specs.Prints.{mostPrinted};
 
 // The map's bytes.

@@ -1,4 +1,3 @@
-pub mod Putting
 pub mod Pieces
 pub mod Lines
 pub mod Bounds

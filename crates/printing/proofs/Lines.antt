@@ -10,10 +10,10 @@ use Rattle.paper.specs.Sizes.{mostParts, numberLimit}
 use Rattle.paper.specs.Files.{each}
 use Rattle.paper.specs.Programs.{decimal, newline, spaced, spacedAll, printedLook, printedRow, printedRefusal}
 use Rattle.layout.specs.Given.{Reads, byteLimit}
-use Rattle.printing.specs.Puts.{PutFrom}
+use Rattle.layout.specs.Puts.{PutFrom}
+use Rattle.layout.proofs.Putting.{put-long, then-put, EachTo, none-put, all-put, one-fits, one-put}
 use Rattle.printing.specs.Prints.{lowestAt, kindAt, symbolAt, partCountAt, partAt, partsAt, platePrinted, lookAt, rowPrinted, rowsPrinted, itemsPrinted, mapPrinted, refusedPrinted, positionPrinted, mostPrinted}
 use Rattle.printing.proofs.Pieces.{decimal-most}
-use Rattle.printing.proofs.Putting.{put-long, then-put, EachTo, none-put, all-put, one-fits, one-put}
 
 -- the parts of a row
 module _ (m : List ℕ) (x n at : ℕ) (d₀ : List ℕ) where

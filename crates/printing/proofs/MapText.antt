@@ -19,7 +19,7 @@ use Rattle.paper.specs.Programs.{decimal, spaced, newline, printedRow, printedR
 use Rattle.layout.specs.Offsets.{symbolBytes, rowBytes, mapBytes}
 use Rattle.layout.specs.Fields.{byteAt}
 use Rattle.layout.specs.MapRows.{lookBytes, bytesOfRow, mapOf}
-use Rattle.printing.specs.Puts.{PutFrom}
+use Rattle.layout.specs.Puts.{PutFrom}
 use Rattle.printing.specs.Prints.{rowFrom, lowestAt, symbolAt, partCountAt, partAt, partsAt, lookAt, rowAt, rowPrinted, rowsPrinted, itemsPrinted, mapPrinted}
 
 -- a look that a row's bytes hold: a symbol of four bytes, and at most four parts

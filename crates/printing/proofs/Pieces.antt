@@ -14,9 +14,9 @@ use Rattle.paper.specs.Programs.{digits, decimal, spaced}
 use Rattle.layout.specs.Offsets.{symbolBytes}
 use Rattle.layout.specs.Fields.{byteAt}
 use Rattle.layout.specs.Given.{Reads, byteLimit}
-use Rattle.printing.specs.Puts.{PutFrom}
+use Rattle.layout.specs.Puts.{PutFrom}
+use Rattle.layout.proofs.Putting.{put-nothing, put-long, then-put}
 use Rattle.printing.specs.Prints.{rowFrom, symbolAt, partCountAt}
-use Rattle.printing.proofs.Putting.{put-nothing, put-long, then-put}
 
 -- a row's symbol and part count
 pub symbol-read : (m : List ℕ) (x a b c e : ℕ)

@@ -10,7 +10,7 @@ ghost use Rattle.paper.specs.Programs.{digits, decimal, spaced, printedLook, pr
 ghost use Rattle.layout.specs.Offsets.{mapBytes};
 ghost use Rattle.layout.specs.Fields.{byteAt};
 ghost use Rattle.layout.specs.Given.{Reads, byteLimit};
-ghost use Rattle.printing.specs.Puts.{PutFrom};
+ghost use Rattle.layout.specs.Puts.{PutFrom};
 ghost use Rattle.printing.specs.Prints.{symbolAt, partCountAt, partAt, platePrinted, lookAt, rowPrinted, rowsPrinted, itemsPrinted, mapPrinted, refusedPrinted, positionPrinted, mostPrinted};
 
 // The paper's mostParts.

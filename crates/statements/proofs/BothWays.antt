@@ -110,7 +110,7 @@ all-appended-bytes : (js : List Item) (d : List ℕ) → Shaped d → countOf d 
 all-appended-bytes [] d s h a b = b
 all-appended-bytes (j ∷ js) d s h a b =
     let l : countOf d < room = omega arith in
-    all-appended-bytes js (appended j d) (appended-shaped d s j l) (omega (arith, appended-count d s j l)) (a .1) (appended-bytes j d s l (a .0) b)
+    all-appended-bytes js (appended j d) (appended-shaped d s j l) (omega (arith, appended-count d j (s .long) l)) (a .1) (appended-bytes j d s l (a .0) b)
 
 cleared-bytes : Bytes cleared
 cleared-bytes i = go (lt-or-le i ownersAt) (lt-or-le i memosAt) (lt-or-le i runBytes)

@@ -5,17 +5,14 @@ use mathlib.Core.List.{List, [], _∷_, map}
 use native.Mathlib.Omega.{arith}
 use lib.ListN.{length, take, drop, drop-of-length-le}
 use lib.Seq.{length-take-le}
-use Rattle.base.specs.Regions.{put}
-use Rattle.base.proofs.Regions.{length-put}
 use Rattle.paper.specs.Sizes.{mostRecords, mostParts, numberLimit, room}
 use Rattle.paper.specs.Runs.{Statement, asItem}
-use Rattle.paper.specs.declared.Item.{Item}
-use Rattle.paper.specs.declared.Item.the-variants.{Statement as statement, Ask as ask, News as news}
+use Rattle.paper.specs.declared.Item.the-variants.{Statement as statement}
 use Rattle.paper.specs.Files.{Form, times, recordForm, Read, got, fault, reading}
-use Rattle.layout.specs.Offsets.{runBytes, itemFrom}
+use Rattle.layout.specs.Offsets.{runBytes}
 use Rattle.layout.specs.Fields.{countOf}
-use Rattle.layout.specs.Changes.{bytesOfItem, appended, appendedAll, withRecord, withRecords}
-use Rattle.layout.proofs.Views.{length-count, count-is}
+use Rattle.layout.specs.Changes.{appended, appendedAll, withRecord, withRecords}
+use Rattle.layout.proofs.Views.{appended-long, appended-count}
 use Rattle.reading.specs.declared.End.{End}
 use Rattle.reading.specs.declared.End.the-variants.{At, Refused}
 use Rattle.reading.specs.declared.RecordRead.{RecordRead}
@@ -117,24 +114,6 @@ module _ (v n : ℕ) (f : List ℕ) (at : ℕ) (d₀ : List ℕ) where
               long = ap length p ∙ written-long i _ d (h .long) (omega arith) t ∙ h .long;
             }
 
--- a pending item more: the length stays, and the count is one more
-module _ (j : Item) (d : List ℕ) (l : length d ≡ runBytes) (h : countOf d < room) where
-  bytes-four : (j : Item) → length (bytesOfItem j) ≡ 4
-  bytes-four (statement c a b) = refl
-  bytes-four (ask c x u) = refl
-  bytes-four (news c x u) = refl
-
-  put-long : length (put (itemFrom (countOf d)) (bytesOfItem j) d) ≡ runBytes
-  put-long = length-put (itemFrom (countOf d)) (bytesOfItem j) d (omega (arith, bytes-four j)) ∙ l
-
-  appended-long : length (appended j d) ≡ runBytes
-  unfolding appended
-  appended-long = length-count (countOf d + 1) (put (itemFrom (countOf d)) (bytesOfItem j) d) (omega (arith, put-long)) ∙ put-long
-
-  appended-one : countOf (appended j d) ≡ countOf d + 1
-  unfolding appended
-  appended-one = count-is (countOf d + 1) (put (itemFrom (countOf d)) (bytesOfItem j) d) (omega (arith, put-long)) (omega arith)
-
 -- the statements
 abbrev allAppended : ℕ → List Statement → List ℕ → List ℕ
 allAppended i l d = appendedAll (map asItem l) d
@@ -184,6 +163,6 @@ module _ (s k n : ℕ) (f : List ℕ) (at : ℕ) (d₀ : List ℕ) where
               filled =
                   one-filled allAppended oneAppended (λ i d. refl) (λ i a l d. refl) (statementFormOf s k) n f at d₀ r i here d (h .filled) g
                   (x .end) _ e to c d′ p;
-              long = ap length p ∙ appended-long (statement (x .cabinet) (x .left) (x .right)) d (h .long) (room-for-one w);
-              count = ap countOf p ∙ appended-one (statement (x .cabinet) (x .left) (x .right)) d (h .long) (room-for-one w) ∙ omega (arith, h .count);
+              long = ap length p ∙ appended-long d (statement (x .cabinet) (x .left) (x .right)) (h .long) (room-for-one w);
+              count = ap countOf p ∙ appended-count d (statement (x .cabinet) (x .left) (x .right)) (h .long) (room-for-one w) ∙ omega (arith, h .count);
             }

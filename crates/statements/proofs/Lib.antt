@@ -5,6 +5,5 @@ pub mod BothWays
 pub mod Filled
 pub mod ReadValues
 pub mod LoadCalls
-pub mod Putting
 pub mod WritePieces
 pub mod WriteCalls

@@ -24,9 +24,11 @@ use Rattle.layout.specs.Fields.{byteAt, recordOf, recordsFrom, tableOf}
 use Rattle.layout.specs.Soundness.{soundBytes}
 use Rattle.layout.proofs.ChangeLaws.{put-then, put-over}
 use Rattle.layout.proofs.SoundViews.{tested, in-range}
-use Rattle.statements.specs.Writes.{asLoaded, statementAt, fileOf, sizesBytes, PutFrom, FilePut, answer, writtenBytes}
+use Rattle.layout.specs.Puts.{PutFrom}
+use Rattle.layout.proofs.Putting.{put-long, then-put}
+use Rattle.statements.specs.Writes.{asLoaded, statementAt, fileOf, sizesBytes, FilePut, answer, writtenBytes}
 use Rattle.statements.proofs.BothWays.{own-file-ok}
-use Rattle.statements.proofs.Putting.{number-put, put-long, then-put}
+use Rattle.statements.proofs.WritePieces.{number-put}
 
 -- the sizes
 module _ (d m : List ℕ) (most : length (sizesBytes d) ≤ length m)

@@ -18,9 +18,14 @@ use Rattle.layout.specs.Given.{Reads, byteLimit, countLimit}
 use Rattle.layout.specs.Soundness.{zerosAt, soundBytes}
 use Rattle.layout.specs.Fields.{byteAt, countOf, symbolOf, partCountOf, partOf, partsFrom, recordOf, recordsFrom}
 use Rattle.layout.specs.Offsets.{clashAt, statementsAt, ownersAt, memosAt, pendingAt, runBytes, itemFrom}
-use Rattle.statements.specs.Writes.{allAre, unmarkedAt, allStatements, asLoaded, statementAt, PutFrom}
+use Rattle.layout.specs.Puts.{PutFrom}
 use Rattle.layout.proofs.SoundViews.{tested, shaped}
-use Rattle.statements.proofs.Putting.{number-put, put-long, then-put, EachTo, none-put, all-put, one-fits, one-put}
+use Rattle.layout.proofs.Putting.{put-long, then-put, EachTo, none-put, all-put, one-fits, one-put}
+use Rattle.statements.specs.Writes.{allAre, unmarkedAt, allStatements, asLoaded, statementAt}
+
+-- a written number is a piece that was put
+pub number-put : {at n : ℕ} {b a : List ℕ} {next : ℕ} → Written at n b a next → PutFrom at (numberBytes n) b a next
+number-put w = record { past = w .past; bytes = w .bytes }
 
 -- a loop over bytes that are to be v, or over items that are to be statements: it stops, goes on, or has passed all
 module _ (v n at : ℕ) (d : List ℕ) (i : ℕ) where

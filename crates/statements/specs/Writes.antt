@@ -1,13 +1,11 @@
 -- What writing takes from a run's bytes: when a sound run is as loaded, the file that it is, and what the call leaves.
 use mathlib.Core.Bool.{Bool, _&&_}
 use mathlib.Core.List.{List, _++_}
-use mathlib.Core.Path.{_≡_}
 use Prim.Native.Nat.{ℕ, _+_, _-_, _≤_}
 use lib.Dec.{eqb}
 use lib.ListN.{length}
 use Rattle.base.specs.Choice.{pick, allBelow}
 use Rattle.base.specs.Lists.{listFrom}
-use Rattle.base.specs.Regions.{put}
 use Rattle.paper.specs.Sizes.{longestFile}
 use Rattle.paper.specs.Refusals.{wrongLength, notSound, notAsLoaded}
 use Rattle.paper.specs.Numbers.{numberBytes}
@@ -16,6 +14,7 @@ use Rattle.paper.specs.Files.{File, Read, got, fault, fileBytes, paddedFile, re
 use Rattle.layout.specs.Offsets.{clashAt, cabinetsAt, unknownsAt, recordsAt, statementsAt, ownersAt, memosAt, pendingAt, runBytes, itemFrom}
 use Rattle.layout.specs.Fields.{byteAt, countOf, tableOf}
 use Rattle.layout.specs.Soundness.{soundBytes, zerosAt}
+use Rattle.layout.specs.Puts.{PutFrom}
 use Rattle.statements.specs.Loads.{loadedBytes}
 
 -- the n bytes from `at` on are all v
@@ -48,11 +47,6 @@ fileOf d = record { table = tableOf d; statements = listFrom (statementAt d) (by
 -- "S, V, R", with which its table starts
 unfoldable pub sizesBytes : List ℕ → List ℕ
 sizesBytes d = numberBytes (byteAt d cabinetsAt) ++ (numberBytes (byteAt d unknownsAt) ++ numberBytes (byteAt d recordsAt))
-
--- the bytes bs from `at` on, all else as it was, and the position after them
-pub record PutFrom (at : ℕ) (bs before after : List ℕ) (next : ℕ) : Type 0 where
-  pub past : next ≡ at + length bs
-  pub bytes : after ≡ put at bs before
 
 -- the run's file at the start of a buffer with room for it
 pub record FilePut (d before after : List ℕ) (next : ℕ) : Type 0 where

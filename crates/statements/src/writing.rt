@@ -11,7 +11,8 @@ ghost use Rattle.layout.specs.Offsets.{runBytes};
 ghost use Rattle.layout.specs.Given.{Reads, byteLimit};
 ghost use Rattle.layout.specs.Fields.{partCountOf, partsFrom, recordOf, recordsFrom, tableOf};
 ghost use Rattle.layout.specs.Soundness.{soundBytes};
-ghost use Rattle.statements.specs.Writes.{allAre, allStatements, asLoaded, statementAt, fileOf, sizesBytes, PutFrom, FilePut, answer, writtenBytes};
+ghost use Rattle.layout.specs.Puts.{PutFrom};
+ghost use Rattle.statements.specs.Writes.{allAre, allStatements, asLoaded, statementAt, fileOf, sizesBytes, FilePut, answer, writtenBytes};
 
 // The paper's longestFile.
 const LONGEST_FILE: usize = 836;
