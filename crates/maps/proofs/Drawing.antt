@@ -4,7 +4,7 @@ use mathlib.Core.List.{List, [], _∷_, _++_, append-assoc, append-nil}
 use Prim.Native.Nat.{ℕ, zero, suc, _+_, _-_, _*_, _≤_, _<_}
 use native.Mathlib.Numerals.{add-one}
 use native.Mathlib.Omega.{arith}
-use lib.ListN.{length, drop, set, replicate, length-append, length-replicate, replicate-append-replicate}
+use lib.ListN.{length, getD, drop, set, replicate, length-append, length-replicate, replicate-append-replicate}
 use lib.Seq.{take-at, drop-append-add}
 use Rattle.base.specs.Regions.{put}
 use Rattle.base.proofs.Regions.{length-put}
@@ -22,8 +22,8 @@ use Rattle.agreement.specs.Given.{SoundRun, OneRecord}
 use Rattle.agreement.specs.Ends.{endsOf, EndsAt}
 use Rattle.agreement.proofs.Ranges.{counted-record, ended-record}
 use Rattle.agreement.proofs.Chains.{open-end, record-end}
-use Rattle.maps.specs.Rows.{lowsOf, recordLookOf, rowsOf, laid, Drawn}
-use Rattle.maps.proofs.Lowest.{lows-count}
+use Rattle.maps.specs.Rows.{lowestItems, lowsOf, recordLookOf, rowsOf, laid, Drawn}
+use Rattle.maps.proofs.Lowest.{lows-count, looked-up}
 
 drop-replicate : (k n a : ℕ) → drop k (replicate n a) ≡ replicate (n - k) a
 drop-replicate zero n a = ap (λ (m : ℕ). replicate m a) (sym (minus-zero n))
@@ -161,8 +161,13 @@ module _ (d : List ℕ) (v i at s n : ℕ) (m m₁ : List ℕ) (g : SoundRun d v
         ap length (e₂ ∙ ap (put (at + 6) (lowsOf d v i)) head-put ∙ put-then at head (lowsOf d v i) m (omega arith)) ∙ p
 
 -- a row drawn
-module _ (d : List ℕ) (v x a low : ℕ) (m : List ℕ) (g : SoundRun d v) (h : x < v) (w : Drawn d x m) (r : Reads (lowestOf (endsOf d) v x) byteLimit low)
-    (e : EndsAt d x a) where
+module _ (d : List ℕ) (v x a : ℕ) (m ls : List ℕ) (g : SoundRun d v) (r : ls ≡ lowestItems d v) (h : x < v) (w : Drawn d x m) (e : EndsAt d x a) where
+  abbrev low : ℕ
+  low = getD ls x 0
+
+  low-is : low ≡ lowestOf (endsOf d) v x
+  low-is = looked-up d v g ls x r h
+
   next-drawn : (m′ : List ℕ) → m′ ≡ laid (rowsOf d x ++ rowAt d x) → length (rowAt d x) ≡ rowBytes → Drawn d (x + 1) m′
   next-drawn m′ q n =
       let f = g .few-unknowns in
@@ -184,12 +189,12 @@ module _ (d : List ℕ) (v x a low : ℕ) (m : List ℕ) (g : SoundRun d v) (h :
   open-row : a < v → rowAt d x ≡ low ∷ replicate (rowBytes - 1) 0
   open-row l =
       let u = g .unknowns in
-      row-is d v x g ∙ rw (e .is, open-end d a (omega arith)) (ap (λ (n : ℕ). n ∷ replicate (rowBytes - 1) 0) (sym (r .same)))
+      row-is d v x g ∙ rw (e .is, open-end d a (omega arith)) (ap (λ (n : ℕ). n ∷ replicate (rowBytes - 1) 0) (sym low-is))
 
-  pub open-drawn : a < v → Drawn d (x + 1) (set m (rowBytes * x) low)
+  pub open-drawn : a < v → Drawn d (x + 1) (set m (rowBytes * x) (getD ls x 0))
   open-drawn l =
       let f = g .few-unknowns in
-      next-drawn (set m (rowBytes * x) low)
+      next-drawn (set m (rowBytes * x) (getD ls x 0))
       (low-put
       ∙ row-blank (rowsOf d x) (low ∷ []) (rowBytes * x) 1 (w .rows) refl (rowBytes - 1) (omega arith)
       ∙ ap (λ (b : List ℕ). laid (rowsOf d x ++ b)) (sym (open-row l)))
@@ -213,9 +218,9 @@ module _ (d : List ℕ) (v x a low : ℕ) (m : List ℕ) (g : SoundRun d v) (h :
         let u = g .unknowns in
         row-is d v x g
         ∙ rw (e .is, record-end d a (omega arith), ← u, lows-count d v (a - v) (partCountOf d (a - v)) ended)
-        (ap (λ (k : ℕ). k ∷ (recordLookOf d v (a - v) ++ replicate (mostParts - partCountOf d (a - v)) 0)) (sym (r .same)))
+        (ap (λ (k : ℕ). k ∷ (recordLookOf d v (a - v) ++ replicate (mostParts - partCountOf d (a - v)) 0)) (sym low-is))
 
-    module _ (m′ : List ℕ) (e′ : m′ ≡ put (rowBytes * x + 1) (recordLookOf d v (a - v)) (set m (rowBytes * x) low)) where
+    module _ (m′ : List ℕ) (e′ : m′ ≡ put (rowBytes * x + 1) (recordLookOf d v (a - v)) (set m (rowBytes * x) (getD ls x 0))) where
       filled-laid : m′ ≡ laid (rowsOf d x ++ filled)
       unfolding filled
       filled-laid =

@@ -1,23 +1,25 @@
--- The lowest same item: the first that agrees, found by a loop; and the lowest same items of a record's parts.
+-- The lowest same item: the first that agrees, found by a loop; those of all unknowns; and those of a record's parts.
 use mathlib.Core.Path.{_≡_, refl, sym, ap, _∙_}
 use mathlib.Core.Bool.{Bool, true, false}
 use mathlib.Core.List.{List, _∷_, map}
 use Prim.Native.Nat.{ℕ, zero, suc, _+_, _-_, _≤_, _<_}
 use native.Mathlib.Numerals.{add-one}
 use native.Mathlib.Omega.{arith}
-use lib.ListN.{length, getD, take, set}
+use lib.ListN.{length, getD, take, set, replicate}
 use Rattle.base.specs.Choice.{firstOf}
 use Rattle.base.specs.Lists.{listFrom}
 use Rattle.base.specs.Regions.{put}
 use Rattle.base.proofs.Froms.{from-length, from-getD}
-use Rattle.base.proofs.Regions.{push-none, push-more, push-all}
+use Rattle.base.proofs.Regions.{put-in, push-none, push-more, push-all}
+use Rattle.paper.specs.Sizes.{mostUnknowns}
 use Rattle.paper.specs.Ends.{agree}
 use Rattle.paper.specs.Maps.{lowestOf}
 use Rattle.layout.specs.Fields.{partCountOf, partOf, recordOf}
 use Rattle.layout.specs.Given.{Reads, byteLimit}
 use Rattle.agreement.specs.Given.{SoundRun, OneRecord}
 use Rattle.agreement.specs.Ends.{endsOf}
-use Rattle.maps.specs.Rows.{lowsOf}
+use Rattle.agreement.proofs.Ranges.{part-unknown}
+use Rattle.maps.specs.Rows.{lowestItems, lowsOf}
 
 module _ (f : ℕ → Bool) (x y : ℕ) (l : y < x) where
   first-is-here : f y ≡ true → firstOf f (x - y) y ≡ y
@@ -53,6 +55,48 @@ module _ (d : List ℕ) (v x : ℕ) where
         let e : x ≡ y = omega arith in
         record { same = e ∙ (rw n at i); small = omega arith }
 
+-- what the loop over all unknowns asks, and a lowest same item looked up
+module _ (d : List ℕ) (v : ℕ) where
+  abbrev items : List ℕ
+  items = listFrom (lowestOf (endsOf d) v) v 0
+
+  abbrev zeros : List ℕ
+  zeros = replicate mostUnknowns 0
+
+  pub no-items : zeros ≡ put 0 (take 0 items) zeros
+  no-items = push-none 0 0 zeros items
+
+  item-at : (x : ℕ) → x < v → getD items x 0 ≡ lowestOf (endsOf d) v x
+  item-at x h = from-getD (lowestOf (endsOf d) v) v 0 x 0 h ∙ ap (lowestOf (endsOf d) v) (zero-plus x)
+    where
+      zero-plus : (k : ℕ) → 0 + k ≡ k
+      zero-plus k = omega arith
+
+  module _ (g : SoundRun d v) where
+    fits : 0 + v ≤ length zeros
+    fits = omega (arith, g .few-unknowns)
+
+    pub items-more : (x r : ℕ) (l : List ℕ) → l ≡ put 0 (take x items) zeros → x < v → Reads (lowestOf (endsOf d) v x) byteLimit r
+        → set l x r ≡ put 0 (take (x + 1) items) zeros
+    items-more x r l e h w =
+        let q : r ≡ getD items x 0 = w .same ∙ sym (item-at x h) in
+        let z : x ≡ 0 + x = omega arith in
+        rw q (ap (λ (k : ℕ). set l k (getD items x 0)) z ∙ push-more 0 v zeros items x l fits (from-length (lowestOf (endsOf d) v) v 0) h e)
+
+    pub items-all : (x : ℕ) (l : List ℕ) → l ≡ put 0 (take x items) zeros → x ≤ v → v ≤ x → l ≡ lowestItems d v
+    unfolding lowestItems
+    items-all x l e h k = push-all 0 v zeros items x l (from-length (lowestOf (endsOf d) v) v 0) h k e
+
+    pub looked-up : (ls : List ℕ) (x : ℕ) → ls ≡ lowestItems d v → x < v → getD ls x 0 ≡ lowestOf (endsOf d) v x
+    unfolding lowestItems
+    looked-up ls x e h =
+        let n : length items ≡ v = from-length (lowestOf (endsOf d) v) v 0 in
+        let z : x ≡ 0 + x = omega arith in
+        ap (λ (l : List ℕ). getD l x 0) e
+        ∙ ap (λ (k : ℕ). getD (put 0 items zeros) k 0) z
+        ∙ put-in 0 items zeros (omega (arith, fits)) x (omega arith)
+        ∙ item-at x h
+
 -- a list made from a function, each element changed
 map-from : (f g : ℕ → ℕ) (n i : ℕ) → map f (listFrom g n i) ≡ listFrom (λ k. f (g k)) n i
 map-from f g zero i = refl
@@ -76,16 +120,24 @@ module _ (d : List ℕ) (v i n : ℕ) (w : OneRecord d v i n) where
       zero-plus : (k : ℕ) → 0 + k ≡ k
       zero-plus k = omega arith
 
+-- a part has its lowest same item among those of all unknowns
+pub part-in-table : (d : List ℕ) (v i n j p : ℕ) → OneRecord d v i n → j < n → Reads (partOf d i j) byteLimit p → p < mostUnknowns
+part-in-table d v i n j p w h r = omega (arith, w .run .few-unknowns, part-unknown d v i n j p w h r)
+
 -- j of them put
 pub no-lows : (d : List ℕ) (v i at : ℕ) (m : List ℕ) → m ≡ put at (take 0 (lowsOf d v i)) m
 no-lows d v i at m = push-none at 0 m (lowsOf d v i)
 
 module _ (d : List ℕ) (v i n : ℕ) (w : OneRecord d v i n) where
   module _ (at j : ℕ) (m l : List ℕ) where
-    pub lows-more : (p r : ℕ) → l ≡ put at (take j (lowsOf d v i)) m → at + n ≤ length m → j < n → Reads (partOf d i j) byteLimit p
-        → Reads (lowestOf (endsOf d) v p) byteLimit r → set l (at + j) r ≡ put at (take (j + 1) (lowsOf d v i)) m
-    lows-more p r e h k rp rr =
-        let q : r ≡ getD (lowsOf d v i) j 0 = rr .same ∙ ap (lowestOf (endsOf d) v) (rp .same) ∙ sym (low-at d v i n w j k) in
+    pub lows-more : (ls : List ℕ) (p : ℕ) → l ≡ put at (take j (lowsOf d v i)) m → at + n ≤ length m → j < n → Reads (partOf d i j) byteLimit p
+        → ls ≡ lowestItems d v → set l (at + j) (getD ls p 0) ≡ put at (take (j + 1) (lowsOf d v i)) m
+    lows-more ls p e h k rp u =
+        let q : getD ls p 0 ≡ getD (lowsOf d v i) j 0 =
+        looked-up d v (w .run) ls p u (part-unknown d v i n j p w k rp)
+        ∙ ap (lowestOf (endsOf d) v) (rp .same)
+        ∙ sym (low-at d v i n w j k)
+        in
         rw q (push-more at n m (lowsOf d v i) j l h (lows-count d v i n w) k e)
 
     pub lows-all : l ≡ put at (take j (lowsOf d v i)) m → j ≤ n → n ≤ j → l ≡ put at (lowsOf d v i) m

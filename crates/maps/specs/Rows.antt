@@ -3,12 +3,19 @@ use mathlib.Core.Path.{_≡_}
 use mathlib.Core.List.{List, _∷_, _++_, map}
 use Prim.Native.Nat.{ℕ, _-_, _*_}
 use lib.ListN.{length, replicate}
+use Rattle.base.specs.Lists.{listFrom}
+use Rattle.base.specs.Regions.{put}
+use Rattle.paper.specs.Sizes.{mostUnknowns}
 use Rattle.paper.specs.Files.{each}
 use Rattle.paper.specs.Maps.{lowestOf, rowsFrom}
 use Rattle.layout.specs.Offsets.{symbolBytes, rowBytes, mapBytes}
 use Rattle.layout.specs.Fields.{bytesOf, symbolOf, partCountOf, recordOf, tableOf, runOf}
 use Rattle.layout.specs.MapRows.{bytesOfRow}
 use Rattle.agreement.specs.Ends.{endsOf}
+
+-- the lowest same item of each unknown, and 0 from v on
+unfoldable pub lowestItems : List ℕ → ℕ → List ℕ
+lowestItems d v = put 0 (listFrom (lowestOf (endsOf d) v) v 0) (replicate mostUnknowns 0)
 
 -- the lowest same item of each part of record i
 unfoldable pub lowsOf : List ℕ → ℕ → ℕ → List ℕ

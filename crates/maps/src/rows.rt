@@ -1,19 +1,16 @@
 // The rows of the map, each in its 11 bytes.
+use crate::lows::lowest_items;
 use agreement::MOST_UNKNOWNS;
 use agreement::end_of;
-use agreement::same_item;
 ghost use mathlib.Core.Path.{_≡_};
 ghost use Prim.Native.Nat.{_+_, _≤_, _<_};
 ghost use lib.ListN.{length};
 ghost use Rattle.base.specs.Regions.{put};
-ghost use Rattle.paper.specs.Maps.{lowestOf};
 ghost use Rattle.layout.specs.Offsets.{recordsAt, rowBytes, mapBytes};
 ghost use Rattle.layout.specs.Fields.{byteAt, tableOf, runOf};
 ghost use Rattle.layout.specs.MapRows.{mapOf};
-ghost use Rattle.layout.specs.Given.{Reads, byteLimit};
 ghost use Rattle.agreement.specs.Given.{SoundRun, OneRecord};
-ghost use Rattle.agreement.specs.Ends.{endsOf};
-ghost use Rattle.maps.specs.Rows.{lowsOf, recordLookOf, Drawn};
+ghost use Rattle.maps.specs.Rows.{lowestItems, lowsOf, recordLookOf, Drawn};
 
 // The kind of a row that is not open.
 const RECORD: u8 = 1;
@@ -26,57 +23,57 @@ const ROW_BYTES: usize = 1 + HEAD_BYTES + 4;
 
 pub const MAP_BYTES: usize = MOST_UNKNOWNS * ROW_BYTES;
 
-// The lowest unknown that is the same item as x.
-fn lowest(run: &[u8], v: usize, x: usize) -> usize
-    requires { ⌜ SoundRun (now run) v × (x < v) ⌝ }
-    ensures { λ r. ⌜ Reads (lowestOf (endsOf (now (run .entry))) v x) byteLimit r ⌝ }
-{
-    let mut y = 0;
-    while y < x {
-        if same_item(run, v, x, y) {
-            return y;
-        }
-        y += 1;
-    }
-    x
-}
-
 // The lowest same item of each of the n parts of record i, from `at` on.
-fn write_lows(run: &[u8], v: usize, i: usize, n: usize, map: &mut [u8], at: usize)
-    requires { ⌜ OneRecord (now run) v i n × (at + n ≤ length (now map)) ⌝ }
+fn write_lows(
+    run: &[u8],
+    v: usize,
+    lows: &[u8; MOST_UNKNOWNS],
+    i: usize,
+    n: usize,
+    map: &mut [u8],
+    at: usize,
+)
+    requires { ⌜ OneRecord (now run) v i n × (now lows ≡ lowestItems (now run) v) × (at + n ≤ length (now map)) ⌝ }
     ensures { λ _. ⌜ now (map .exit) ≡ put at (lowsOf (now (run .entry)) v i) (now (map .entry)) ⌝ }
 {
     let mut j = 0;
     while j < n {
         let p = layout::part_at(run, i, j);
-        map[at + j] = lowest(run, v, p) as u8;
+        map[at + j] = lows[p];
         j += 1;
     }
 }
 
 // The row of record i after its first byte, from `at` on: the kind, the symbol, the part count, the parts.
-fn write_record(run: &[u8], v: usize, i: usize, map: &mut [u8], at: usize)
-    requires { ⌜ SoundRun (now run) v × (i < byteAt (now run) recordsAt) × (at + rowBytes ≤ length (now map) + 1) ⌝ }
+fn write_record(
+    run: &[u8],
+    v: usize,
+    lows: &[u8; MOST_UNKNOWNS],
+    i: usize,
+    map: &mut [u8],
+    at: usize,
+)
+    requires { ⌜ SoundRun (now run) v × (now lows ≡ lowestItems (now run) v) × (i < byteAt (now run) recordsAt) × (at + rowBytes ≤ length (now map) + 1) ⌝ }
     ensures { λ _. ⌜ now (map .exit) ≡ put at (recordLookOf (now (run .entry)) v i) (now (map .entry)) ⌝ }
 {
     let n = layout::part_count(run, i);
     map[at] = RECORD;
     layout::put_head(map, at + 1, layout::symbol_at(run, i), n as u8);
-    write_lows(run, v, i, n, map, at + HEAD_BYTES);
+    write_lows(run, v, lows, i, n, map, at + HEAD_BYTES);
 }
 
 // Row x, of a map in which the rows before it are drawn and all else is 0.
-fn write_row(run: &[u8], v: usize, x: usize, map: &mut [u8])
-    requires { ⌜ SoundRun (now run) v × (x < v) × Drawn (now run) x (now map) ⌝ }
+fn write_row(run: &[u8], v: usize, lows: &[u8; MOST_UNKNOWNS], x: usize, map: &mut [u8])
+    requires { ⌜ SoundRun (now run) v × (now lows ≡ lowestItems (now run) v) × (x < v) × Drawn (now run) x (now map) ⌝ }
     ensures { λ _. ⌜ Drawn (now (run .entry)) (x + 1) (now (map .exit)) ⌝ }
 {
     let at = ROW_BYTES * x;
-    map[at] = lowest(run, v, x) as u8;
+    map[at] = lows[x];
     let a = end_of(run, v, x);
     if a < v {
         return;
     }
-    write_record(run, v, a - v, map, at + 1);
+    write_record(run, v, lows, a - v, map, at + 1);
 }
 
 // The whole map: all 0 at first, then row by row.
@@ -85,9 +82,10 @@ pub fn draw(run: &[u8], v: usize, map: &mut [u8])
     ensures { λ _. ⌜ now (map .exit) ≡ mapOf (tableOf (now (run .entry))) (runOf (now (run .entry))) ⌝ }
 {
     layout::fill(map, 0, MAP_BYTES, 0);
+    let lows = lowest_items(run, v);
     let mut x = 0;
     while x < v {
-        write_row(run, v, x, map);
+        write_row(run, v, &lows, x, map);
         x += 1;
     }
 }

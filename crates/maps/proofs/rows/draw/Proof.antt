@@ -7,13 +7,16 @@ use Rattle.maps.proofs.rows.draw.Statement.{statement}
 use Rattle.maps.proofs.rows.draw.Tie as tie
 
 abbrev Inv-loop : tie.InvT-loop
-Inv-loop run v map₀ x₀ map x = (x ≤ v) × Drawn run x map
+Inv-loop run v map₀ lows x₀ map x = (x ≤ v) × Drawn run x map
 
 abbrev μ-loop : tie.MeasureT-loop
-μ-loop run v map₀ x₀ map x = v - x
+μ-loop run v map₀ lows x₀ map x = v - x
 
 fill-requires : tie.Need-fill-requires Inv-loop μ-loop
 fill-requires c κs = search needs
+
+lowest-items-requires : tie.Need-lowest-items-requires Inv-loop μ-loop
+lowest-items-requires c κs = search needs
 
 loop-holds : tie.Need-loop-holds Inv-loop μ-loop
 loop-holds c = (search needs, search none-drawn)
@@ -43,6 +46,7 @@ draw-spec =
     Inv-loop
     μ-loop
     fill-requires
+    lowest-items-requires
     loop-holds
     write-row-requires
     add-x

@@ -6,16 +6,15 @@ use borrow.Author.Needs.{needs}
 use lib.ListN.{length, take, length-set}
 use Rattle.base.specs.Regions.{put}
 use Rattle.maps.specs.Rows.{lowsOf}
-use Rattle.agreement.proofs.Ranges.{part-unknown}
-use Rattle.maps.proofs.Lowest.{no-lows, lows-more, lows-all}
+use Rattle.maps.proofs.Lowest.{part-in-table, no-lows, lows-more, lows-all}
 use Rattle.maps.proofs.rows.write_lows.Statement.{statement}
 use Rattle.maps.proofs.rows.write_lows.Tie as tie
 
 abbrev Inv-loop : tie.InvT-loop
-Inv-loop run v i n map₀ at j₀ map j = (j ≤ n) × (length map ≡ length map₀) × (map ≡ put at (take j (lowsOf run v i)) map₀)
+Inv-loop run v lows i n map₀ at j₀ map j = (j ≤ n) × (length map ≡ length map₀) × (map ≡ put at (take j (lowsOf run v i)) map₀)
 
 abbrev μ-loop : tie.MeasureT-loop
-μ-loop run v i n map₀ at j₀ map j = n - j
+μ-loop run v lows i n map₀ at j₀ map j = n - j
 
 loop-holds : tie.Need-loop-holds Inv-loop μ-loop
 loop-holds c = (search needs, refl, search no-lows)
@@ -23,11 +22,8 @@ loop-holds c = (search needs, refl, search no-lows)
 part-at-requires : tie.Need-part-at-requires Inv-loop μ-loop
 part-at-requires c κs = search needs
 
-lowest-requires : tie.Need-lowest-requires Inv-loop μ-loop
-lowest-requires c κs = (search needs, search part-unknown)
-
-cast-map : tie.Need-cast-map Inv-loop μ-loop
-cast-map c = search needs
+element-copy-out-map : tie.Need-element-copy-out-map Inv-loop μ-loop
+element-copy-out-map c = search part-in-table
 
 add-map : tie.Need-add-map Inv-loop μ-loop
 add-map c = search needs
@@ -58,8 +54,7 @@ write-lows-spec =
     μ-loop
     loop-holds
     part-at-requires
-    lowest-requires
-    cast-map
+    element-copy-out-map
     add-map
     slice-write-map
     add-j

@@ -29,7 +29,7 @@ add-write-lows : tie.Need-add-write-lows
 add-write-lows c = search needs
 
 write-lows-requires : tie.Need-write-lows-requires
-write-lows-requires c κs = (search counted-record, search parts-fit)
+write-lows-requires c κs = (search counted-record, search needs, search parts-fit)
 
 same-length : tie.Need-same-length
 same-length c = search record-length

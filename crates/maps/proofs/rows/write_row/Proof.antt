@@ -9,11 +9,8 @@ use Rattle.maps.proofs.rows.write_row.Tie as tie
 mul-at : tie.Need-mul-at
 mul-at c = search needs
 
-lowest-requires : tie.Need-lowest-requires
-lowest-requires c κs = search needs
-
-cast-map : tie.Need-cast-map
-cast-map c = search needs
+element-copy-out-map : tie.Need-element-copy-out-map
+element-copy-out-map c = search needs
 
 slice-write-map : tie.Need-slice-write-map
 slice-write-map c = search needs
@@ -31,7 +28,7 @@ add-write-record : tie.Need-add-write-record
 add-write-record c = search needs
 
 write-record-requires : tie.Need-write-record-requires
-write-record-requires c κs = (search needs, search needs, simp length-set (omega arith))
+write-record-requires c κs = (search needs, search needs, search needs, simp length-set (omega arith))
 
 same-length-2 : tie.Need-same-length-2
 same-length-2 c = search row-length
@@ -44,8 +41,7 @@ write-row-spec =
     tie.close
     (tie.spec
     mul-at
-    lowest-requires
-    cast-map
+    element-copy-out-map
     slice-write-map
     end-of-requires
     same-length

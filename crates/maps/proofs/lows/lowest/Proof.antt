@@ -7,8 +7,8 @@ use Rattle.paper.specs.Ends.{agree}
 use Rattle.paper.specs.Maps.{lowestOf}
 use Rattle.agreement.specs.Ends.{endsOf}
 use Rattle.maps.proofs.Lowest.{lowest-from-0, lowest-found, lowest-later, lowest-itself}
-use Rattle.maps.proofs.rows.lowest.Statement.{statement}
-use Rattle.maps.proofs.rows.lowest.Tie as tie
+use Rattle.maps.proofs.lows.lowest.Statement.{statement}
+use Rattle.maps.proofs.lows.lowest.Tie as tie
 
 abbrev Inv-loop : tie.InvT-loop
 Inv-loop run v x y₀ y = (y ≤ x) × (firstOf (agree (endsOf run) v x) (x - y) y ≡ lowestOf (endsOf run) v x)
