@@ -1,2 +1,3 @@
 pub mod SoundNumbers
 pub mod SoundRegions
+pub mod SoundZeros

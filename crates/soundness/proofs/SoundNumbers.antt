@@ -9,6 +9,14 @@ use Rattle.base.proofs.Tests.{fst-true, snd-true}
 use Rattle.paper.specs.Sizes.{mostCabinets, mostUnknowns, mostRecords, mostStatements, room}
 use Rattle.layout.specs.Soundness.{lesser, clashOk, sizesOk, markOk, pairOk, itemOk}
 
+-- one byte more that must be 0
+module _ (x : ℕ) (clean : Bool) where
+  pub no-longer-zero : (x ≡ 0 → ⊥) → false ≡ (eqb x 0 && clean)
+  no-longer-zero h = rw (ne-eqb x 0 h)
+
+  pub zero-still : x ≡ 0 → clean ≡ (eqb x 0 && clean)
+  zero-still e = rw e
+
 -- a choice by an order of numbers
 module _ {A : Type 0} (b x y : A) (k n : ℕ) where
   pub chosen-below : k < n → b ≡ x → b ≡ pick (ltb k n) x y
@@ -88,6 +96,11 @@ module _ (s v r e n : ℕ) where
 
     pub sizes-passed-records : r ≤ mostRecords
     sizes-passed-records = leb-true r mostRecords (fst-true (leb r mostRecords) _ (snd-true (leb v mostUnknowns) _ ranges))
+
+    pub sizes-passed-pending : n ≤ room
+    sizes-passed-pending =
+        leb-true n room
+        (snd-true (leb e mostStatements) _ (snd-true (leb r mostRecords) _ (snd-true (leb v mostUnknowns) _ ranges)))
 
 module _ (v r x m : ℕ) where
   pub mark-nothing : m ≡ 255 → true ≡ markOk v r x m

@@ -4,15 +4,15 @@ use mathlib.Core.Path.{_≡_, sym, _∙_}
 use mathlib.Core.Bool.{Bool, true, false, not, _&&_}
 use mathlib.Core.List.{List}
 use Prim.Native.Nat.{ℕ, _+_, _*_, _≤_, _<_}
+use native.Mathlib.Omega.{arith}
 use lib.Dec.{ltb, eqb}
-use borrow.Author.Tests.{le-leb, lt-leb, eq-eqb, ne-eqb, not-true, not-false}
+use borrow.Author.Tests.{le-leb, lt-leb, ne-eqb, not-true, not-false}
 use Rattle.base.specs.Choice.{pick, allBelow}
 use Rattle.base.proofs.Ranges.{below-more, below-all, below-fails}
 use Rattle.paper.specs.Sizes.{mostParts}
 use Rattle.layout.specs.Offsets.{clashAt, clashCabinetAt, cabinetsAt, unknownsAt, recordsAt, statementsAt, countAt, ownersAt, storeFrom, memoFrom, itemFrom}
 use Rattle.layout.specs.Fields.{byteAt, countOf, partCountOf, partOf}
-use Rattle.layout.specs.Soundness.{zerosAt, lesser, clashOk, sizesOk, partsOk, ownerOk, markOk, pairOk, itemOk, placeOk, regionsOk, soundBytes}
-use Rattle.soundness.proofs.SoundNumbers.{chosen-below}
+use Rattle.layout.specs.Soundness.{lesser, clashOk, sizesOk, partsOk, ownerOk, markOk, pairOk, itemOk, regionsOk, soundBytes}
 
 -- a loop over the numbers below n, whose test of i says b: it goes on, stops, or has passed all
 module _ (f : ℕ → Bool) (i : ℕ) where
@@ -21,6 +21,9 @@ module _ (f : ℕ → Bool) (i : ℕ) where
 
   pub stops : (n : ℕ) (b : Bool) → b ≡ f i → i < n → not b ≡ true → false ≡ allBelow n f
   stops n b e l k = sym (below-fails f n i l (sym e ∙ not-true b k))
+
+  pub stops-below : (m n : ℕ) (b : Bool) → b ≡ f i → i < n → n ≤ m → not b ≡ true → false ≡ allBelow m f
+  stops-below m n b e l h k = stops m b e (omega arith) k
 
   pub passed-all : (n : ℕ) → allBelow i f ≡ true → i ≤ n → n ≤ i → true ≡ allBelow n f
   passed-all n h l k = sym (below-all f n i l k h)
@@ -32,15 +35,6 @@ module _ (b p q : Bool) (e : b ≡ p) where
 
   pub and-stops : not b ≡ true → false ≡ (p && q)
   and-stops k = rw (← e, not-true b k)
-
-module _ (n at : ℕ) (d : List ℕ) (i : ℕ) where
-  pub zeros-fail : i < n → (byteAt d (at + i) ≡ 0 → ⊥) → false ≡ zerosAt n at d
-  unfolding zerosAt
-  zeros-fail l h = sym (below-fails (λ i. eqb (byteAt d (at + i)) 0) n i l (ne-eqb _ _ h))
-
-  pub zeros-more : zerosAt i at d ≡ true → byteAt d (at + i) ≡ 0 → zerosAt (i + 1) at d ≡ true
-  unfolding zerosAt
-  zeros-more h e = below-more (λ i. eqb (byteAt d (at + i)) 0) i h (eq-eqb _ _ e)
 
 -- the tests that a region's loop makes: of part place k of record i, of the mark for x in cabinet c's store, and of the byte for
 -- x and y in its memo
@@ -98,16 +92,14 @@ module _ (s v c x y m : ℕ) (d : List ℕ) (b : Bool) (e : m ≡ byteAt d (memo
   pub pair-more : not b ≡ false → allBelow y (pairAtOk s v d c x) ≡ true → allBelow (y + 1) (pairAtOk s v d c x) ≡ true
   pair-more t a = goes-on (pairAtOk s v d c x) y b a pair-read t
 
-pub place-item : (s v r n p k c l m : ℕ) (d : List ℕ) (b : Bool)
+pub item-read : (s v r p k c l m : ℕ) (d : List ℕ) (b : Bool)
     → k ≡ byteAt d (itemFrom p)
     → c ≡ byteAt d (itemFrom p + 1)
     → l ≡ byteAt d (itemFrom p + 2)
     → m ≡ byteAt d (itemFrom p + 3)
-    → p < n
     → b ≡ itemOk s v r k c l m
-    → b ≡ placeOk s v r n d p
-unfolding placeOk
-place-item s v r n p k c l m d b e₀ e₁ e₂ e₃ h t = chosen-below _ _ _ p n h (cc)
+    → b ≡ itemOk s v r (byteAt d (itemFrom p)) (byteAt d (itemFrom p + 1)) (byteAt d (itemFrom p + 2)) (byteAt d (itemFrom p + 3))
+item-read s v r p k c l m d b e₀ e₁ e₂ e₃ t = cc
 
 pub clash-read : (s a c : ℕ) (d : List ℕ) (b : Bool)
     → a ≡ byteAt d clashAt

@@ -1,13 +1,15 @@
 // Whether a run's 59,752 bytes are sound: one test for each region of document 01's table, each over the definition of its
 // name in specs/Soundness.antt. The sizes are tested first, so that no sum of them can overflow.
 ghost use mathlib.Core.Path.{_≡_};
+ghost use mathlib.Core.Bool.{_&&_};
 ghost use Prim.Native.Nat.{_+_, _<_, _≤_};
 ghost use lib.Dec.{ltb, eqb};
 ghost use lib.ListN.{length};
 ghost use Rattle.base.specs.Choice.{pick};
 ghost use Rattle.paper.specs.Sizes.{mostCabinets, mostUnknowns, mostRecords, room};
-ghost use Rattle.layout.specs.Offsets.{runBytes};
-ghost use Rattle.layout.specs.Soundness.{zerosAt, lesser, clashOk, sizesOk, partsOk, recordOk, recordsOk, ownerOk, ownersOk, markOk, storeOk, storesOk, pairOk, memoRowOk, memoOk, memosOk, itemOk, placeOk, itemsOk, regionsOk, soundBytes};
+ghost use Rattle.layout.specs.Offsets.{runBytes, itemFrom};
+ghost use Rattle.layout.specs.Fields.{byteAt};
+ghost use Rattle.layout.specs.Soundness.{zerosAt, lesser, clashOk, sizesOk, partsOk, recordsOk, ownerOk, ownersOk, markOk, storeOk, storesOk, pairOk, memoRowOk, memoOk, memosOk, itemOk, itemsOk, regionsOk, soundBytes};
 
 // The limits of document 01.
 const MOST_CABINETS: usize = 8;
@@ -53,19 +55,29 @@ fn wide(x: u8) -> usize
     x as usize
 }
 
-// Whether the n bytes from `at` on are 0.
+// Whether x is 0, and the bytes before it were.
+fn still_zero(clean: bool, x: u8) -> bool
+    ensures { λ b. ⌜ b ≡ (eqb x 0 && clean) ⌝ }
+{
+    if x != 0 {
+        return false;
+    }
+    clean
+}
+
+// Whether the n bytes from `at` on are 0. There is no way out inside the loop, so that it compiles to one that tests many bytes at
+// once.
 fn zeros_at(run: &[u8], n: usize, at: usize) -> bool
     requires { ⌜ at + n ≤ length (now run) ⌝ }
     ensures { λ b. ⌜ b ≡ zerosAt n at (now (run .entry)) ⌝ }
 {
+    let mut clean = true;
     let mut i = 0;
     while i < n {
-        if run[at + i] != 0 {
-            return false;
-        }
+        clean = still_zero(clean, run[at + i]);
         i += 1;
     }
-    true
+    clean
 }
 
 // Whether u is an entry less than the unknown x: a record, or an unknown with a smaller number.
@@ -147,30 +159,23 @@ fn parts_ok(run: &[u8], v: usize, i: usize) -> bool
     true
 }
 
-// Whether record i is sound: its parts if it is below R, else all its bytes are 0.
-fn record_ok(run: &[u8], v: usize, r: usize, i: usize) -> bool
-    requires { ⌜ (length (now run) ≡ runBytes) × (i < mostRecords) ⌝ }
-    ensures { λ b. ⌜ b ≡ recordOk v r (now (run .entry)) i ⌝ }
-{
-    if i < r {
-        return parts_ok(run, v, i);
-    }
-    zeros_at(run, RECORD_BYTES, TABLE_AT + RECORD_BYTES * i)
-}
-
-// Whether all 64 records are sound.
+// Whether all 64 records are sound: the parts of those below R; the bytes from there on are 0.
 fn records_ok(run: &[u8], v: usize, r: usize) -> bool
-    requires { ⌜ length (now run) ≡ runBytes ⌝ }
+    requires { ⌜ (length (now run) ≡ runBytes) × (r ≤ mostRecords) ⌝ }
     ensures { λ b. ⌜ b ≡ recordsOk v r (now (run .entry)) ⌝ }
 {
     let mut i = 0;
-    while i < MOST_RECORDS {
-        if !record_ok(run, v, r, i) {
+    while i < r {
+        if !parts_ok(run, v, i) {
             return false;
         }
         i += 1;
     }
-    true
+    zeros_at(
+        run,
+        RECORD_BYTES * (MOST_RECORDS - r),
+        TABLE_AT + RECORD_BYTES * r,
+    )
 }
 
 // Whether the owner mark of x is sound: 255, or an entry less than x.
@@ -345,40 +350,37 @@ fn item_ok(s: usize, v: usize, r: usize, k: usize, c: usize, a: usize, b: usize)
     lesser(v, r, b, a)
 }
 
-// Whether place p of the pending items is sound: an item if it is below the count n, else four bytes of 0.
-fn place_ok(run: &[u8], s: usize, v: usize, r: usize, n: usize, p: usize) -> bool
+// Whether the item at place p is sound.
+fn item_at_ok(run: &[u8], s: usize, v: usize, r: usize, p: usize) -> bool
     requires { ⌜ (length (now run) ≡ runBytes) × (v ≤ mostUnknowns) × (r ≤ mostRecords) × (p < room) ⌝ }
-    ensures { λ b. ⌜ b ≡ placeOk s v r n (now (run .entry)) p ⌝ }
+    ensures { λ b. ⌜ b ≡ itemOk s v r (byteAt (now (run .entry)) (itemFrom p)) (byteAt (now (run .entry)) (itemFrom p + 1)) (byteAt (now (run .entry)) (itemFrom p + 2)) (byteAt (now (run .entry)) (itemFrom p + 3)) ⌝ }
 {
     let at = PENDING_AT + ITEM_BYTES * p;
-    if p < n {
-        let k = wide(run[at]);
-        let c = wide(run[at + 1]);
-        let a = wide(run[at + 2]);
-        let b = wide(run[at + 3]);
-        return item_ok(s, v, r, k, c, a, b);
-    }
-    zeros_at(run, ITEM_BYTES, at)
+    let k = wide(run[at]);
+    let c = wide(run[at + 1]);
+    let a = wide(run[at + 2]);
+    let b = wide(run[at + 3]);
+    item_ok(s, v, r, k, c, a, b)
 }
 
-// Whether all 12,672 places of pending items are sound.
+// Whether all 12,672 places of pending items are sound: the items below the count n; the bytes from there on are 0.
 fn items_ok(run: &[u8], s: usize, v: usize, r: usize, n: usize) -> bool
-    requires { ⌜ (length (now run) ≡ runBytes) × (v ≤ mostUnknowns) × (r ≤ mostRecords) ⌝ }
+    requires { ⌜ (length (now run) ≡ runBytes) × (v ≤ mostUnknowns) × (r ≤ mostRecords) × (n ≤ room) ⌝ }
     ensures { λ b. ⌜ b ≡ itemsOk s v r n (now (run .entry)) ⌝ }
 {
     let mut p = 0;
-    while p < ROOM {
-        if !place_ok(run, s, v, r, n, p) {
+    while p < n {
+        if !item_at_ok(run, s, v, r, p) {
             return false;
         }
         p += 1;
     }
-    true
+    zeros_at(run, ITEM_BYTES * (ROOM - n), PENDING_AT + ITEM_BYTES * n)
 }
 
 // Whether the regions that depend on the sizes are sound.
 fn regions_ok(run: &[u8], s: usize, v: usize, r: usize, n: usize) -> bool
-    requires { ⌜ (length (now run) ≡ runBytes) × (v ≤ mostUnknowns) × (r ≤ mostRecords) ⌝ }
+    requires { ⌜ (length (now run) ≡ runBytes) × (v ≤ mostUnknowns) × (r ≤ mostRecords) × (n ≤ room) ⌝ }
     ensures { λ b. ⌜ b ≡ regionsOk s v r n (now (run .entry)) ⌝ }
 {
     let a = wide(run[0]);

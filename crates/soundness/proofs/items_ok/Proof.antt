@@ -1,31 +1,31 @@
--- `items_ok` meets its contract. The loop has passed p places that are sound.
+-- `items_ok` meets its contract. The loop has passed p places below the count that are sound; one test has the rest.
 use Prim.Native.Nat.{_≤_, _-_}
 use mathlib.Core.Bool.{true}
 use mathlib.Core.Path.{_≡_}
 use borrow.Author.Needs.{needs}
 use Rattle.base.proofs.Ranges.{below-none}
 use Rattle.base.specs.Choice.{allBelow}
-use Rattle.paper.specs.Sizes.{room}
-use Rattle.layout.specs.Soundness.{itemsOk, placeOk}
-use Rattle.soundness.proofs.SoundRegions.{goes-on, passed-all, stops}
+use Rattle.layout.specs.Soundness.{placeOk, itemsOk}
+use Rattle.soundness.proofs.SoundRegions.{goes-on, stops-below}
+use Rattle.soundness.proofs.SoundZeros.{place-item, items-rest}
 use Rattle.soundness.proofs.items_ok.Statement.{statement}
 use Rattle.soundness.proofs.items_ok.Tie as tie
 
 abbrev Inv-loop : tie.InvT-loop
-Inv-loop run s v r n p₀ p = (p ≤ room) × (allBelow p (placeOk s v r n run) ≡ true)
+Inv-loop run s v r n p₀ p = (p ≤ n) × (allBelow p (placeOk s v r n run) ≡ true)
 
 abbrev μ-loop : tie.MeasureT-loop
-μ-loop run s v r n p₀ p = room - p
+μ-loop run s v r n p₀ p = n - p
 
 loop-holds : tie.Need-loop-holds Inv-loop μ-loop
 loop-holds c = (search needs, search below-none)
 
-place-ok-requires : tie.Need-place-ok-requires Inv-loop μ-loop
-place-ok-requires c κs = search needs
+item-at-ok-requires : tie.Need-item-at-ok-requires Inv-loop μ-loop
+item-at-ok-requires c κs = search needs
 
 returns : tie.Need-returns Inv-loop μ-loop
 unfolding itemsOk
-returns c = search stops
+returns c = search (stops-below, place-item)
 
 add-p : tie.Need-add-p Inv-loop μ-loop
 add-p c = search needs
@@ -34,11 +34,25 @@ loop-less : tie.Need-loop-less Inv-loop μ-loop
 loop-less c = search needs
 
 loop-again : tie.Need-loop-again Inv-loop μ-loop
-loop-again c = (search needs, search goes-on)
+loop-again c = (search needs, search (goes-on, place-item))
+
+sub-zeros-at : tie.Need-sub-zeros-at Inv-loop μ-loop
+sub-zeros-at c = search needs
+
+mul-zeros-at : tie.Need-mul-zeros-at Inv-loop μ-loop
+mul-zeros-at c = search needs
+
+mul-zeros-at-2 : tie.Need-mul-zeros-at-2 Inv-loop μ-loop
+mul-zeros-at-2 c = search needs
+
+add-zeros-at : tie.Need-add-zeros-at Inv-loop μ-loop
+add-zeros-at c = search needs
+
+zeros-at-requires : tie.Need-zeros-at-requires Inv-loop μ-loop
+zeros-at-requires c κs = search needs
 
 returns-2 : tie.Need-returns-2 Inv-loop μ-loop
-unfolding itemsOk
-returns-2 c = search passed-all
+returns-2 c = search items-rest
 
 pub items-ok-spec : {M : Type 1} → statement M
 items-ok-spec =
@@ -47,9 +61,14 @@ items-ok-spec =
     Inv-loop
     μ-loop
     loop-holds
-    place-ok-requires
+    item-at-ok-requires
     returns
     add-p
     loop-less
     loop-again
+    sub-zeros-at
+    mul-zeros-at
+    mul-zeros-at-2
+    add-zeros-at
+    zeros-at-requires
     returns-2)

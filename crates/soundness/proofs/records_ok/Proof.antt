@@ -1,31 +1,31 @@
--- `records_ok` meets its contract. The loop has passed i records that are sound.
+-- `records_ok` meets its contract. The loop has passed i records below R that are sound; one test has the rest.
 use Prim.Native.Nat.{_≤_, _-_}
 use mathlib.Core.Bool.{true}
 use mathlib.Core.Path.{_≡_}
 use borrow.Author.Needs.{needs}
 use Rattle.base.proofs.Ranges.{below-none}
 use Rattle.base.specs.Choice.{allBelow}
-use Rattle.paper.specs.Sizes.{mostRecords}
 use Rattle.layout.specs.Soundness.{recordOk, recordsOk}
-use Rattle.soundness.proofs.SoundRegions.{goes-on, passed-all, stops}
+use Rattle.soundness.proofs.SoundRegions.{goes-on, stops-below}
+use Rattle.soundness.proofs.SoundZeros.{record-parts, records-rest}
 use Rattle.soundness.proofs.records_ok.Statement.{statement}
 use Rattle.soundness.proofs.records_ok.Tie as tie
 
 abbrev Inv-loop : tie.InvT-loop
-Inv-loop run v r i₀ i = (i ≤ mostRecords) × (allBelow i (recordOk v r run) ≡ true)
+Inv-loop run v r i₀ i = (i ≤ r) × (allBelow i (recordOk v r run) ≡ true)
 
 abbrev μ-loop : tie.MeasureT-loop
-μ-loop run v r i₀ i = mostRecords - i
+μ-loop run v r i₀ i = r - i
 
 loop-holds : tie.Need-loop-holds Inv-loop μ-loop
 loop-holds c = (search needs, search below-none)
 
-record-ok-requires : tie.Need-record-ok-requires Inv-loop μ-loop
-record-ok-requires c κs = search needs
+parts-ok-requires : tie.Need-parts-ok-requires Inv-loop μ-loop
+parts-ok-requires c κs = search needs
 
 returns : tie.Need-returns Inv-loop μ-loop
 unfolding recordsOk
-returns c = search stops
+returns c = search (stops-below, record-parts)
 
 add-i : tie.Need-add-i Inv-loop μ-loop
 add-i c = search needs
@@ -34,11 +34,25 @@ loop-less : tie.Need-loop-less Inv-loop μ-loop
 loop-less c = search needs
 
 loop-again : tie.Need-loop-again Inv-loop μ-loop
-loop-again c = (search needs, search goes-on)
+loop-again c = (search needs, search (goes-on, record-parts))
+
+sub-zeros-at : tie.Need-sub-zeros-at Inv-loop μ-loop
+sub-zeros-at c = search needs
+
+mul-zeros-at : tie.Need-mul-zeros-at Inv-loop μ-loop
+mul-zeros-at c = search needs
+
+mul-zeros-at-2 : tie.Need-mul-zeros-at-2 Inv-loop μ-loop
+mul-zeros-at-2 c = search needs
+
+add-zeros-at : tie.Need-add-zeros-at Inv-loop μ-loop
+add-zeros-at c = search needs
+
+zeros-at-requires : tie.Need-zeros-at-requires Inv-loop μ-loop
+zeros-at-requires c κs = search needs
 
 returns-2 : tie.Need-returns-2 Inv-loop μ-loop
-unfolding recordsOk
-returns-2 c = search passed-all
+returns-2 c = search records-rest
 
 pub records-ok-spec : {M : Type 1} → statement M
 records-ok-spec =
@@ -47,9 +61,14 @@ records-ok-spec =
     Inv-loop
     μ-loop
     loop-holds
-    record-ok-requires
+    parts-ok-requires
     returns
     add-i
     loop-less
     loop-again
+    sub-zeros-at
+    mul-zeros-at
+    mul-zeros-at-2
+    add-zeros-at
+    zeros-at-requires
     returns-2)

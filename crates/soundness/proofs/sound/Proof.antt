@@ -1,6 +1,6 @@
 -- `sound` meets its contract. A conjunction of the sizes, which bound the sums below, and of the regions.
 use borrow.Author.Needs.{needs}
-use Rattle.soundness.proofs.SoundNumbers.{sizes-passed-records, sizes-passed-unknowns}
+use Rattle.soundness.proofs.SoundNumbers.{sizes-passed-pending, sizes-passed-records, sizes-passed-unknowns}
 use Rattle.soundness.proofs.SoundRegions.{sound-regions, sound-sizes-fail}
 use Rattle.soundness.proofs.sound.Statement.{statement}
 use Rattle.soundness.proofs.sound.Tie as tie
@@ -56,7 +56,8 @@ returns c = search sound-sizes-fail
 regions-ok-requires : tie.Need-regions-ok-requires
 regions-ok-requires c κs =
     let h = c .before .sizes-ok .ensures
-    in let k = c .if1 .left in (search needs, sizes-passed-unknowns _ _ _ _ _ _ h k, sizes-passed-records _ _ _ _ _ _ h k)
+    in let k = c .if1 .left
+    in (search needs, sizes-passed-unknowns _ _ _ _ _ _ h k, sizes-passed-records _ _ _ _ _ _ h k, sizes-passed-pending _ _ _ _ _ _ h k)
 
 returns-2 : tie.Need-returns-2
 returns-2 c = search sound-regions

@@ -1,32 +1,29 @@
--- `zeros_at` meets its contract. The loop has passed i bytes that are 0; a byte that is not fails the whole.
+-- `zeros_at` meets its contract. The loop has tested i bytes, and `clean` says whether they are 0.
 use Prim.Native.Nat.{_≤_, _-_}
-use mathlib.Core.Bool.{true}
 use mathlib.Core.Path.{_≡_}
 use borrow.Author.Needs.{needs}
-use Rattle.base.proofs.Ranges.{below-none}
 use Rattle.layout.specs.Soundness.{zerosAt}
-use Rattle.soundness.proofs.SoundRegions.{passed-all, zeros-fail, zeros-more}
+use Rattle.soundness.proofs.SoundZeros.{zeros-none, zeros-next, zeros-whole}
 use Rattle.soundness.proofs.zeros_at.Statement.{statement}
 use Rattle.soundness.proofs.zeros_at.Tie as tie
 
 abbrev Inv-loop : tie.InvT-loop
-Inv-loop run n at i₀ i = (i ≤ n) × (zerosAt i at run ≡ true)
+Inv-loop run n at clean₀ i₀ clean i = (i ≤ n) × (clean ≡ zerosAt i at run)
 
 abbrev μ-loop : tie.MeasureT-loop
-μ-loop run n at i₀ i = n - i
+μ-loop run n at clean₀ i₀ clean i = n - i
 
 loop-holds : tie.Need-loop-holds Inv-loop μ-loop
-unfolding zerosAt
-loop-holds c = (search needs, search below-none)
+loop-holds c = (search needs, search zeros-none)
 
-add-if1 : tie.Need-add-if1 Inv-loop μ-loop
-add-if1 c = search needs
+add-still-zero : tie.Need-add-still-zero Inv-loop μ-loop
+add-still-zero c = search needs
 
-shared-slice-read-if1 : tie.Need-shared-slice-read-if1 Inv-loop μ-loop
-shared-slice-read-if1 c = search needs
+shared-slice-read-still-zero : tie.Need-shared-slice-read-still-zero Inv-loop μ-loop
+shared-slice-read-still-zero c = search needs
 
-returns : tie.Need-returns Inv-loop μ-loop
-returns c = search zeros-fail
+still-zero-requires : tie.Need-still-zero-requires Inv-loop μ-loop
+still-zero-requires c κs = search needs
 
 add-i : tie.Need-add-i Inv-loop μ-loop
 add-i c = search needs
@@ -35,11 +32,10 @@ loop-less : tie.Need-loop-less Inv-loop μ-loop
 loop-less c = search needs
 
 loop-again : tie.Need-loop-again Inv-loop μ-loop
-loop-again c = (search needs, search zeros-more)
+loop-again c = (search needs, search zeros-next)
 
-returns-2 : tie.Need-returns-2 Inv-loop μ-loop
-unfolding zerosAt
-returns-2 c = search passed-all
+returns : tie.Need-returns Inv-loop μ-loop
+returns c = search zeros-whole
 
 pub zeros-at-spec : {M : Type 1} → statement M
 zeros-at-spec =
@@ -48,10 +44,10 @@ zeros-at-spec =
     Inv-loop
     μ-loop
     loop-holds
-    add-if1
-    shared-slice-read-if1
-    returns
+    add-still-zero
+    shared-slice-read-still-zero
+    still-zero-requires
     add-i
     loop-less
     loop-again
-    returns-2)
+    returns)

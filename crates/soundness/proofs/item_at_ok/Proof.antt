@@ -1,10 +1,9 @@
--- `place_ok` meets its contract. An item as read, or four bytes of 0.
+-- `item_at_ok` meets its contract. An item as read.
 use borrow.Author.Needs.{needs}
-use Rattle.layout.specs.Soundness.{placeOk}
-use Rattle.soundness.proofs.SoundNumbers.{chosen-from}
-use Rattle.soundness.proofs.SoundRegions.{place-item}
-use Rattle.soundness.proofs.place_ok.Statement.{statement}
-use Rattle.soundness.proofs.place_ok.Tie as tie
+use Rattle.soundness.proofs.SoundRegions.{item-read}
+use borrow.Author.Needs.{needs}
+use Rattle.soundness.proofs.item_at_ok.Statement.{statement}
+use Rattle.soundness.proofs.item_at_ok.Tie as tie
 
 mul-at : tie.Need-mul-at
 mul-at c = search needs
@@ -49,17 +48,10 @@ item-ok-requires : tie.Need-item-ok-requires
 item-ok-requires c κs = search needs
 
 returns : tie.Need-returns
-returns c = search place-item
+returns c = search item-read
 
-zeros-at-requires : tie.Need-zeros-at-requires
-zeros-at-requires c κs = search needs
-
-returns-2 : tie.Need-returns-2
-unfolding placeOk
-returns-2 c = search chosen-from
-
-pub place-ok-spec : {M : Type 1} → statement M
-place-ok-spec =
+pub item-at-ok-spec : {M : Type 1} → statement M
+item-at-ok-spec =
     tie.close
     (tie.spec
     mul-at
@@ -76,6 +68,4 @@ place-ok-spec =
     shared-slice-read-wide-4
     wide-requires-4
     item-ok-requires
-    returns
-    zeros-at-requires
-    returns-2)
+    returns)
