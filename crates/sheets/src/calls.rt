@@ -220,20 +220,20 @@ fn tested(run: &mut [u8]) -> u64
 fn sweep(bytes: &[u8], run: &mut [u8]) -> Line
     requires { ⌜ length (now run) ≡ runSpace ⌝ }
 {
-    let at = reading::two(bytes, 0);
-    let before = reading::byte(run, at);
+    let at = pieces::two(bytes, 0);
+    let before = pieces::byte(run, at);
     let mut numbers = 1;
     let mut v: usize = 0;
     while v < 256 {
         set(run, at, v as u8);
-        numbers = reading::fold(numbers, tested(run));
+        numbers = pieces::fold(numbers, tested(run));
         v += 1;
     }
     set(run, at, before);
     Line {
         number: 0,
         value: numbers,
-        hash: reading::hash(run),
+        hash: pieces::hash(run),
     }
 }
 
