@@ -1,2 +1,1 @@
-pub mod NotZero
 pub mod PrintLaws

@@ -35,7 +35,7 @@ use Rattle.promises.specs.Sentences.{ProgramEnds}
 use Rattle.promises.proofs.Reaching.{Viewed, viewed, file-ok}
 use Rattle.promises.proofs.Sentences.{sentences}
 use Rattle.mapping.specs.Runs.{Ran}
-use Rattle.mapping.proofs.NotZero.{refusal-not-zero}
+use Rattle.paper.proofs.NotZero.{refusal-not-zero}
 
 -- what loading an accepted file leaves
 record Loading (s : List ℕ) (k p : ℕ) (d : List ℕ) : Type 0 where

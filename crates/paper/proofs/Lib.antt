@@ -27,6 +27,7 @@ pub mod NumberFaults
 pub mod Forms
 pub mod RoundTrip
 pub mod FirstFault
+pub mod NotZero
 pub mod StatementParts
 pub mod OneResult
 pub mod ListOfSteps

@@ -23,7 +23,8 @@ pub data Alike (t : Table) (qs : List Statement) : ℕ → ℕ → Type 0 where
       → sameHead (recordAt t a) (recordAt t b) ≡ true → Zip (recordAt t a .parts) (recordAt t b .parts) p q
       → Alike t qs p q
 
--- "The statements clash exactly when two alike records differ in symbol or count."
+-- "The statements clash exactly when two alike records differ in symbol or count." A number beyond the entries is no record of the
+-- table, but in an accepted file no statement and no part names it: it is alike to itself alone, so it changes nothing here nor below.
 pub record Clash (t : Table) (qs : List Statement) : Type 0 where
   pub one : ℕ
   pub two : ℕ

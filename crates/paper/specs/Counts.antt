@@ -25,8 +25,7 @@ isStatement (statement c a b) = 1
 isStatement (ask c x u) = 0
 isStatement (news c x u) = 0
 
--- "for each unknown with an owner mark, pending news plus cabinets holding that entry come to S": 1 for news of x; for a mark
--- that is an entry; and for an unknown of which the cabinets are told, one with an owner mark
+-- "for each unknown with an owner mark, pending news plus cabinets holding that entry come to S": 1 for a news of x
 abbrev pub newsOf : ℕ → Item → ℕ
 newsOf x (statement d a b) = 0
 newsOf x (ask d y u) = 0

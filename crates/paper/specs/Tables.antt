@@ -23,7 +23,7 @@ pub record Table : Type 0 where
 abbrev pub entries : Table → ℕ
 entries t = t .unknowns + length (t .records)
 
--- asked of entries only, and so is `isRecord`
+-- asked of entries, and so is `isRecord`: a number beyond the entries counts as a record
 abbrev pub isUnknown : Table → ℕ → Bool
 isUnknown t a = ltb a (t .unknowns)
 

@@ -33,7 +33,7 @@ use Rattle.rules.proofs.Bridge.{Ready, outcomeOf, bridge}
 use Rattle.maps.specs.Bytes.{Mapped, mapped, mapBytesOf}
 use Rattle.promises.specs.FromFiles.{Bytes, Accepted, FromFile, stepped, HasClashed, NothingPending, AtEnd}
 use Rattle.promises.specs.Demands.{TwoRuns, BothAlike, both-clash, same-map, Demand3}
-use Rattle.promises.proofs.Reaching.{taken-step, step-taken, file-ok, Viewed, viewed}
+use Rattle.promises.proofs.Reaching.{taken-step, step-taken, file-ok, Viewed, viewed, list-from-file}
 use Rattle.promises.proofs.Derived.{finished-view, map-given}
 
 -- the end of the bytes is the end of their view
@@ -145,6 +145,7 @@ end-from s f a (suc k) n d h l =
 pub demand-3 : Demand3
 demand-3 =
     record {
+      list-from-file = list-from-file;
       one-result = one-result;
       step-count = step-count;
       never-full = never-full;

@@ -8,7 +8,7 @@ use Prim.Native.Nat.{ℕ, zero, suc, _+_, _-_, _*_, _≤_, _<_}
 use native.Mathlib.Omega.{arith}
 use borrow.Author.Tests.{eqb-true, eq-eqb}
 use lib.Dec.{eqb}
-use lib.ListN.{length, getElem?, replicate}
+use lib.ListN.{length, take, getElem?, replicate}
 use Rattle.base.specs.Choice.{pick}
 use Rattle.base.proofs.Elements.{place-some}
 use Rattle.base.proofs.Froms.{from-length}
@@ -17,12 +17,13 @@ use Rattle.paper.specs.Tables.{Table}
 use Rattle.paper.specs.Runs.{Statement, State, Run}
 use Rattle.paper.specs.Rules.{Carried}
 use Rattle.paper.specs.Steps.{Outcome, refused, done, step}
-use Rattle.paper.specs.Files.{File, Read, got, readFile, fileBytes, paddedFile, each}
+use Rattle.paper.specs.Files.{File, Read, got, fault, readFile, fileBytes, paddedFile, each}
 use Rattle.paper.specs.Reached.{FileOk, Reached, Finished}
 use Rattle.paper.specs.Maps.{Row, IsRow, mapRow, rowsFrom, mapRows}
-use Rattle.paper.proofs.StepIsRule.{done-is-rule}
+use Rattle.paper.proofs.StepIsRule.{done-is-rule, one-rule as only-rule}
 use Rattle.paper.proofs.Refusals.{unclashed}
 use Rattle.paper.proofs.RoundTrip.{read-written}
+use Rattle.paper.proofs.NotZero.{refusal-not-zero}
 use Rattle.paper.proofs.OneResult.{map-is-the-statements}
 use Rattle.layout.specs.Offsets.{clashAt, clashCabinetAt, rowBytes, runBytes, mapBytes}
 use Rattle.layout.specs.Fields.{byteAt, countOf, itemAt, itemsFrom, clashOf, tableOf, stateOf, runOf}
@@ -36,7 +37,7 @@ use Rattle.rules.proofs.Bridge.{Ready, ready-sound, outcomeOf, bridge, Left, by
 use Rattle.maps.specs.Bytes.{Mapped, mapped, drawnMap, mapBytesOf}
 use Rattle.promises.specs.FromFiles.{Bytes, Accepted, FromFile, NothingPending, IsMap}
 use Rattle.promises.specs.Demands.{Demand2}
-use Rattle.promises.proofs.Reaching.{ready-of, step-taken, all-bytes, file-ok, Viewed, viewed}
+use Rattle.promises.proofs.Reaching.{ready-of, step-taken, all-bytes, file-ok, loaded-is, Viewed, viewed, list-is-steps}
 
 one-rule : (d : List ℕ) → Bytes d → (i k : ℕ) (e : List ℕ) → stepBytes d i ≡ out 0 k e
     → Carried (tableOf d) (runOf d) i k (runOf e) × (tableOf e ≡ tableOf d) × (soundBytes e ≡ true)
@@ -111,18 +112,80 @@ finished-map s f a n d h p lent m l =
       λ w. g ∙ ap (mapped 0) (sym (map-only t (f .statements) (runOf d) is m w)),
     )
 
-read-then-written : (s : List ℕ) (f : File) → Accepted s f → (lent : List ℕ) → length lent ≡ longestFile
-    → (writtenBytes (loadedBytes f) lent ≡ answer 0 (length s) (paddedFile f)) × (fileBytes f ≡ s)
-read-then-written s f a lent l =
-    let e : fileBytes f ≡ s = sym (read-written s (all-bytes s (a .bytes)) f (a .end) (a .read) .bytes) in
-    (loaded-written f (file-ok s f a) lent l ∙ ap (λ (x : List ℕ). answer 0 (length x) (paddedFile f)) e, e)
+take-whole : (x y : List ℕ) → take (length x) (x ++ y) ≡ x
+take-whole [] y = refl
+take-whole (a ∷ x) y = ap (λ (l : List ℕ). a ∷ l) (take-whole x y)
 
-written-then-read : (d : List ℕ) → Bytes d → length d ≡ runBytes → soundBytes d ≡ true → asLoaded d ≡ true
-    → (before : List ℕ) → length before ≡ runBytes → loadBytes (fileBytes (fileOf d)) before ≡ answer 0 0 d
+-- what an accepted load and an accepted write say
+load-accepted : (s before d : List ℕ) → loadBytes s before ≡ answer 0 0 d → (f : File) × (at : ℕ) × (readFile s ≡ got f at)
 unfolding loadBytes
-written-then-read d b l s a before k =
-    rw (eq-eqb (length before) runBytes k, written-loads d l b s a) (ap (answer 0 0) (loads-back d l b s a))
+load-accepted s before d h = go (eqb (length before) runBytes) (readFile s) refl h
+  where
+    go : (b : Bool) (x : Read File) → readFile s ≡ x → pick b (loadedRead before x) (answer 12 0 before) ≡ answer 0 0 d
+        → (f : File) × (at : ℕ) × (readFile s ≡ got f at)
+    go true (got f at) e z = (f, at, e)
+    go true (fault k p) e z =
+        let w : k ≡ 0 = cc in let l : 1 ≤ k = refusal-not-zero s k p e in absurd (omega arith)
+    go false x e z = absurd (let w : _≡_ {A = ℕ} 12 0 = cc in omega arith)
+
+record Wrote (d : List ℕ) (n : ℕ) (m : List ℕ) : Type 0 where
+  long : length d ≡ runBytes
+  sound : soundBytes d ≡ true
+  loaded : asLoaded d ≡ true
+  size : n ≡ length (fileBytes (fileOf d))
+  bytes : m ≡ paddedFile (fileOf d)
+
+write-accepted : (d lent : List ℕ) (n : ℕ) (m : List ℕ) → writtenBytes d lent ≡ answer 0 n m → Wrote d n m
+unfolding writtenBytes
+write-accepted d lent n m h = go (eqb (length d) runBytes) refl (eqb (length lent) longestFile) (soundBytes d) refl (asLoaded d) refl h
+  where
+    go : (a : Bool) → eqb (length d) runBytes ≡ a → (c : Bool) (y : Bool) → soundBytes d ≡ y → (z : Bool) → asLoaded d ≡ z
+        → pick (a && c) (pick y (pick z (answer 0 (length (fileBytes (fileOf d))) (paddedFile (fileOf d))) (answer 19 0 lent)) (answer 17 0 lent)) (answer 12 0 lent)
+        ≡ answer 0 n m → Wrote d n m
+    go true a true true y true z w = record { long = eqb-true (length d) runBytes a; sound = y; loaded = z; size = cc; bytes = cc }
+    go true a true true y false z w = absurd (let v : _≡_ {A = ℕ} 19 0 = cc in omega arith)
+    go true a true false y z x w = absurd (let v : _≡_ {A = ℕ} 17 0 = cc in omega arith)
+    go true a false s y z x w = absurd (let v : _≡_ {A = ℕ} 12 0 = cc in omega arith)
+    go false a c s y z x w = absurd (let v : _≡_ {A = ℕ} 12 0 = cc in omega arith)
+
+read-then-written : (s : List ℕ) → Bytes s → (before d : List ℕ) → loadBytes s before ≡ answer 0 0 d → (lent : List ℕ)
+    → length lent ≡ longestFile → writtenBytes d lent ≡ answer 0 (length s) (s ++ replicate (longestFile - length s) 0)
+unfolding paddedFile
+read-then-written s b before d h lent l =
+    let g = load-accepted s before d h in
+    let f = g .0 in
+    let a : Accepted s f = record { bytes = b; end = g .1; read = g .2 } in
+    let e : fileBytes f ≡ s = sym (read-written s (all-bytes s b) f (g .1) (g .2) .bytes) in
+    ap (λ (u : List ℕ). writtenBytes u lent) (loaded-is s before d f (g .1) (g .2) h)
+    ∙ loaded-written f (file-ok s f a) lent l
+    ∙ ap (λ (x : List ℕ). answer 0 (length x) (x ++ replicate (longestFile - length x) 0)) e
+
+written-then-read : (d : List ℕ) → Bytes d → (lent : List ℕ) (n : ℕ) (m : List ℕ) → writtenBytes d lent ≡ answer 0 n m
+    → (before : List ℕ) → length before ≡ runBytes → loadBytes (take n m) before ≡ answer 0 0 d
+unfolding loadBytes paddedFile
+written-then-read d b lent n m h before k =
+    let w = write-accepted d lent n m h in
+    let x = fileBytes (fileOf d) in
+    let t : take n m ≡ x =
+    ap₂ (λ (c : ℕ) (u : List ℕ). take c u) (w .size) (w .bytes) ∙ take-whole x (replicate (longestFile - length x) 0) in
+    rw (t, eq-eqb (length before) runBytes k, written-loads d (w .long) b (w .sound) (w .loaded))
+    (ap (answer 0 0) (loads-back d (w .long) b (w .sound) (w .loaded)))
+
+no-other-rule : (d : List ℕ) → Bytes d → (i k : ℕ) (e : List ℕ) → stepBytes d i ≡ out 0 k e → (j : ℕ) (r : Run)
+    → Carried (tableOf d) (runOf d) i j r → (j ≡ k) × (r ≡ runOf e)
+no-other-rule d b i k e h j r c =
+    let w = step-taken d i k e h in
+    let y = ready-of d (w .long) (w .sound) b in
+    let s : step (tableOf d) (runOf d) i ≡ done k (runOf e) = sym (bridge d y i) ∙ ap outcomeOf (w .is) in
+    only-rule (tableOf d) (runOf d) (y .sound) (unclashed (tableOf d) (runOf d) i k (runOf e) s) i j k r (runOf e) c (one-rule d b i k e h .0)
 
 pub demand-2 : Demand2
 demand-2 =
-    record { one-rule = one-rule; finished-map = finished-map; read-then-written = read-then-written; written-then-read = written-then-read }
+    record {
+      one-rule = one-rule;
+      no-other-rule = no-other-rule;
+      list-is-steps = list-is-steps;
+      finished-map = finished-map;
+      read-then-written = read-then-written;
+      written-then-read = written-then-read;
+    }

@@ -16,7 +16,7 @@ use Rattle.base.proofs.Froms.{from-length}
 use Rattle.paper.specs.Sizes.{longestFile}
 use Rattle.paper.specs.Runs.{State, Run}
 use Rattle.paper.specs.Steps.{Outcome, refused, done, step, Listed, listed, steps}
-use Rattle.paper.specs.Files.{File, Read, got, fault, readFile, fileBytes, paddedFile}
+use Rattle.paper.specs.Files.{File, Read, got, fault, readFile, fileBytes, paddedFile, Span}
 use Rattle.paper.specs.Replies.{Reply, reply, checked, loadReply, stepReply, listReply, mapNumber, mapReply, writeReply}
 use Rattle.paper.specs.declared.Item.{Item}
 use Rattle.layout.specs.Offsets.{clashAt, clashCabinetAt, runBytes, mapBytes}
@@ -28,7 +28,7 @@ use Rattle.rules.specs.Bytes.{Out, out, takenBytes, stepBytes, onwardBytes, all
 use Rattle.rules.proofs.Bridge.{Ready, outcomeOf, bridge}
 use Rattle.maps.specs.Bytes.{Mapped, mapped, drawnMap, mapBytesOf}
 use Rattle.promises.specs.FromFiles.{Bytes}
-use Rattle.promises.specs.Demands.{replyOfAnswer, replyOfOut, replyOfMap, Demand1}
+use Rattle.promises.specs.Demands.{replyOfAnswer, replyOfOut, replyOfMap, OneAnswer, OneOut, OneMapped, OneSpan, Demand1}
 use Rattle.promises.proofs.Reaching.{ready-of, listedOf, all-taken-same, taken-refused}
 
 -- by the length and soundness of the run
@@ -122,7 +122,7 @@ steps-reply d b is =
     by-checks d (allTaken is 0 d) (listReply (steps (tableOf d) (runOf d) 0 is))
     (λ l s. list-reply (allTaken is 0 d) (steps (tableOf d) (runOf d) 0 is) (all-taken-same is 0 d (ready-of d l s b)))
 
-steps-left : (d e is : List ℕ) (k n : ℕ) → stepsBytes d is ≡ out (suc k) n e → (e ≡ d) ⊎ (stepsBytes d (take n is) ≡ out 0 n e)
+steps-left : (d e is : List ℕ) (k n : ℕ) → stepsBytes d is ≡ out (suc k) n e → ((n ≡ 0) × (e ≡ d)) ⊎ (stepsBytes d (take n is) ≡ out 0 n e)
 unfolding stepsBytes
 steps-left d e is k n h = go (eqb (length d) runBytes) refl (soundBytes d) refl h
   where
@@ -130,11 +130,11 @@ steps-left d e is k n h = go (eqb (length d) runBytes) refl (soundBytes d) refl 
     minus-zero m = omega arith
 
     go : (x : Bool) → eqb (length d) runBytes ≡ x → (y : Bool) → soundBytes d ≡ y
-        → pick x (pick y (allTaken is 0 d) (out 17 0 d)) (out 12 0 d) ≡ out (suc k) n e → (e ≡ d) ⊎ (stepsBytes d (take n is) ≡ out 0 n e)
+        → pick x (pick y (allTaken is 0 d) (out 17 0 d)) (out 12 0 d) ≡ out (suc k) n e → ((n ≡ 0) × (e ≡ d)) ⊎ (stepsBytes d (take n is) ≡ out 0 n e)
     go true a true b z =
         inr (rw (a, b) (ap (λ (j : ℕ). allTaken (take j is) 0 d) (sym (minus-zero n)) ∙ stopped is 0 d k n e z .1))
-    go true a false b z = inl cc
-    go false a y b z = inl cc
+    go true a false b z = inl (cc, cc)
+    go false a y b z = inl (cc, cc)
 
 -- a map
 drawn-reply : (d m : List ℕ) → Ready d → replyOfMap (drawnMap d m) ≡ mapReply (runOf d)
@@ -199,10 +199,28 @@ write-left d m e k p h = go (eqb (length d) runBytes && eqb (length m) longestFi
     go true false z w = cc
     go false y z w = cc
 
+-- equal answers have equal parts
+one-answer : {v : Answer} → OneAnswer v
+one-answer k p k′ p′ e e′ x y = let z : answer k p e ≡ answer k′ p′ e′ = x ∙ sym y in (cc, cc, cc)
+
+one-out : {v : Out} → OneOut v
+one-out k p k′ p′ e e′ x y = let z : out k p e ≡ out k′ p′ e′ = x ∙ sym y in (cc, cc, cc)
+
+one-mapped : {v : Mapped} → OneMapped v
+one-mapped k k′ m m′ x y = let z : mapped k m ≡ mapped k′ m′ = x ∙ sym y in (cc, cc)
+
+one-span : {v : Span} → OneSpan v
+one-span a b x y = (ap (λ (s : Span). s .start) (x ∙ sym y), ap (λ (s : Span). s .size) (x ∙ sym y))
+
 pub demand-1 : Demand1
 demand-1 =
     record {
-      fixed = λ v a b x y. x ∙ sym y;
+      one-load = λ s d. one-answer;
+      one-statement = λ s n. one-span;
+      one-step = λ d i. one-out;
+      one-list = λ d is. one-out;
+      one-map = λ d m. one-mapped;
+      one-write = λ d m. one-answer;
       loading = load-reply;
       stepping = step-reply;
       listing = steps-reply;

@@ -1,3 +1,4 @@
+pub mod KeptBytes
 pub mod Reaching
 pub mod Fixed
 pub mod Derived

@@ -33,9 +33,9 @@ use Rattle.statements.proofs.Loaded.{LoadedAs, loaded-as}
 use Rattle.layout.specs.Changes.{removedAt, appendedAll}
 use Rattle.effects.specs.Changes.{applied}
 use Rattle.rules.specs.Plans.{Plan, wait, plan, planOf}
-use Rattle.rules.specs.Bytes.{Out, out, performedBytes, takenBytes, stepBytes, onwardBytes, allTaken}
+use Rattle.rules.specs.Bytes.{Out, out, performedBytes, takenBytes, stepBytes, onwardBytes, allTaken, stepsBytes}
 use Rattle.rules.proofs.Bridge.{Ready, ready-sound, outcomeOf, bridge, Left, bytesOf, taken-left}
-use Rattle.promises.specs.FromFiles.{Bytes, Accepted, FromFile, loaded, stepped, HasClashed, NothingPending, AtEnd}
+use Rattle.promises.specs.FromFiles.{Bytes, Accepted, FromFile, loaded, stepped, Along, none-left, one-more, ListEnds, all-done, stops, HasClashed, NothingPending, AtEnd}
 
 -- sound bytes are ready for a step
 pub ready-of : (d : List ℕ) → length d ≡ runBytes → soundBytes d ≡ true → Bytes d → Ready d
@@ -145,3 +145,92 @@ all-taken-same (i ∷ is) n d r = go (takenBytes d i) refl (taken-left d r i) (�
     go (out (suc m) k e) z l ih =
         let b : step (tableOf d) (runOf d) i ≡ refused (suc m) = sym (bridge d r i) ∙ ap outcomeOf z in
         ap (λ (u : List ℕ). listed (suc m) n (runOf u)) (taken-refused d i m k e z .1) ∙ sym (rw b)
+
+-- a list of places on ready bytes is its steps, one after the other
+record Listing (d is : List ℕ) (m k n : ℕ) (e : List ℕ) : Type 0 where
+  many : ℕ
+  count : n ≡ m + many
+  along : Along d (take many is) e
+  ends : ListEnds is e k many
+
+one-later : {i k n : ℕ} {is e : List ℕ} → ListEnds is e k n → ListEnds (i ∷ is) e k (suc n)
+one-later all-done = all-done
+one-later (stops j p q) = stops j p q
+
+all-taken-along : (is : List ℕ) (m : ℕ) (d : List ℕ) → Ready d → (k n : ℕ) (e : List ℕ) → allTaken is m d ≡ out k n e → Listing d is m k n e
+unfolding allTaken
+all-taken-along [] m d r k n e h =
+    let a : 0 ≡ k = cc in
+    let b : m ≡ n = cc in
+    let c : d ≡ e = cc in
+    record {
+      many = 0;
+      count = omega arith;
+      along = subst (λ (u : List ℕ). Along d [] u) c none-left;
+      ends = subst (λ (j : ℕ). ListEnds [] e j 0) a all-done;
+    }
+all-taken-along (i ∷ is) m d r k n e h = go (takenBytes d i) refl (taken-left d r i) h (λ u y z. all-taken-along is (m + 1) u y k n e z)
+  where
+    go : (o : Out) → takenBytes d i ≡ o → Left d r (bytesOf d r (takenBytes d i)) → onwardBytes o m (λ j u. allTaken is j u) ≡ out k n e
+        → ((u : List ℕ) → Ready u → allTaken is (m + 1) u ≡ out k n e → Listing u is (m + 1) k n e) → Listing d (i ∷ is) m k n e
+    go (out zero j u) t l z ih =
+        let l′ : Left d r u = subst (λ (o : Out). Left d r (bytesOf d r o)) t l in
+        let w = ih u (l′ .ready) z in
+        record {
+          many = suc (w .many);
+          count = omega (arith, w .count);
+          along = one-more i j (taken-step d r i ∙ t) (w .along);
+          ends = one-later (w .ends);
+        }
+    go (out (suc q) j u) t l z ih =
+        let x = taken-refused d i q j u t in
+        let y : stepBytes d i ≡ out (suc q) 0 d = taken-step d r i ∙ t ∙ ap₂ (λ (a : ℕ) (v : List ℕ). out (suc q) a v) (x .0) (x .1) in
+        let a : suc q ≡ k = cc in
+        let b : m ≡ n = cc in
+        let c : d ≡ e = sym (x .1) ∙ (let v : u ≡ e = cc in v) in
+        record {
+          many = 0;
+          count = omega arith;
+          along = subst (λ (v : List ℕ). Along d [] v) c none-left;
+          ends = subst (λ (f : ℕ). ListEnds (i ∷ is) e f 0) a (subst (λ (v : List ℕ). ListEnds (i ∷ is) v (suc q) 0) c (stops i refl y));
+        }
+
+pub list-is-steps : (d : List ℕ) → Bytes d → length d ≡ runBytes → soundBytes d ≡ true → (is : List ℕ) (k n : ℕ) (e : List ℕ)
+    → stepsBytes d is ≡ out k n e → Along d (take n is) e × ListEnds is e k n
+unfolding stepsBytes
+list-is-steps d b l s is k n e h =
+    let z : allTaken is 0 d ≡ out k n e = rw (eq-eqb (length d) runBytes l, s) at h in
+    let w = all-taken-along is 0 d (ready-of d l s b) k n e z in
+    let c : w .many ≡ n = omega (arith, w .count) in
+    subst (λ (j : ℕ). Along d (take j is) e × ListEnds is e k j) c (w .along, w .ends)
+
+-- a list of places carries a run from a file on by as many steps as it does
+all-taken-from : (s is : List ℕ) (m c : ℕ) (d : List ℕ) → Ready d → FromFile s (m + c) d → (k n : ℕ) (e : List ℕ) → allTaken is c d ≡ out k n e
+    → FromFile s (m + n) e
+unfolding allTaken
+all-taken-from s [] m c d r h k n e z =
+    let a : c ≡ n = cc in
+    let b : d ≡ e = cc in
+    subst (λ (j : ℕ). FromFile s (m + j) e) a (subst (FromFile s (m + c)) b h)
+all-taken-from s (i ∷ is) m c d r h k n e z =
+    go (takenBytes d i) refl (taken-left d r i) z (λ u y g w. all-taken-from s is m (c + 1) u y g k n e w)
+  where
+    go : (o : Out) → takenBytes d i ≡ o → Left d r (bytesOf d r (takenBytes d i)) → onwardBytes o c (λ j u. allTaken is j u) ≡ out k n e
+        → ((u : List ℕ) → Ready u → FromFile s (m + (c + 1)) u → allTaken is (c + 1) u ≡ out k n e → FromFile s (m + n) e) → FromFile s (m + n) e
+    go (out zero j u) t l w ih =
+        let l′ : Left d r u = subst (λ (o : Out). Left d r (bytesOf d r o)) t l in
+        let a : suc (m + c) ≡ m + (c + 1) = omega arith in
+        ih u (l′ .ready) (subst (λ (q : ℕ). FromFile s q u) a (stepped h i j (taken-step d r i ∙ t))) w
+    go (out (suc q) j u) t l w ih =
+        let a : c ≡ n = cc in
+        let b : d ≡ e = sym (taken-refused d i q j u t .1) ∙ (let v : u ≡ e = cc in v) in
+        subst (λ (y : ℕ). FromFile s (m + y) e) a (subst (FromFile s (m + c)) b h)
+
+pub list-from-file : (s : List ℕ) (f : File) → Accepted s f → (m : ℕ) (d : List ℕ) → FromFile s m d → (is : List ℕ) (k n : ℕ) (e : List ℕ)
+    → stepsBytes d is ≡ out k n e → FromFile s (m + n) e
+unfolding stepsBytes
+list-from-file s f a m d h is k n e z =
+    let r = viewed s f a h .ready in
+    let w : allTaken is 0 d ≡ out k n e = rw (eq-eqb (length d) runBytes (r .shaped .long), ready-sound d r) at z in
+    let b : m ≡ m + 0 = omega arith in
+    all-taken-from s is m 0 d r (subst (λ (j : ℕ). FromFile s j d) b h) k n e w

@@ -45,11 +45,12 @@ use Rattle.statements.specs.Writes.{Answer, answer, asLoaded, fileOf, writtenBy
 use Rattle.statements.proofs.Loaded.{LoadedAs, loaded-as}
 use Rattle.statements.proofs.BothWays.{as-loaded-exactly}
 use Rattle.rules.specs.Bytes.{Out, out, takenBytes, stepBytes}
-use Rattle.rules.proofs.Bridge.{Ready, ready-sound, outcomeOf, place-item}
+use Rattle.rules.proofs.Bridge.{Ready, ready-sound, outcomeOf, place-item, Left, bytesOf, taken-left}
 use Rattle.drawing.specs.Draws.{takenPlace, afterTaken, drawnFrom, drawnBytes}
 use Rattle.drawing.proofs.DrawnViews.{DrawnLeft, drawn-same}
 use Rattle.promises.specs.FromFiles.{Bytes, Accepted, FromFile, loaded, stepped}
 use Rattle.promises.specs.Sentences.{FromAccepted, pendingOf, pendingNews, isEntry, holders, pendingStatements, SameCabinet, Stands, SameStep, both-refused, both-done, cabinetOf, KeepsCabinet, ProgramEnds, Sentences}
+use Rattle.promises.proofs.KeptBytes.{Smalls, small-at, taken-kept, loaded-kept}
 use Rattle.promises.proofs.Reaching.{ready-of, taken-step, step-taken, taken-refused, all-bytes, file-ok, loaded-is, Viewed, viewed}
 use Rattle.promises.proofs.Derived.{demand-2}
 use Rattle.promises.proofs.Alike.{view-clashed, view-finished, in-paper}
@@ -367,11 +368,26 @@ same-print s s′ f f′ a a′ items said =
         ap (printedRun (f .table) (drawnRun f)) (c .unclashed) ∙ map-print (f .table) (f′ .table) (drawnRun f) (drawnRun f′) (items .0) e
         ∙ sym (ap (printedRun (f′ .table) (drawnRun f′)) (c′ .unclashed))
 
+-- soundness, the length and bytes are kept
+reached-kept : (s : List ℕ) (f : File) → Accepted s f → {n : ℕ} {d : List ℕ} → FromFile s n d → Smalls d
+reached-kept s f a (loaded before {d = d} h) =
+    subst Smalls (sym (loaded-is s before d f (a .end) (a .read) h)) (loaded-kept f (file-ok s f a))
+reached-kept s f a (stepped {d = d} h i k {e = e} z) = taken-kept d (reached-kept s f a h) i k e (step-taken d i k e z .is)
+
+step-sound : (d : List ℕ) → Bytes d → (i k : ℕ) (e : List ℕ) → stepBytes d i ≡ out 0 k e
+    → (length e ≡ runBytes) × (soundBytes e ≡ true) × Bytes e
+step-sound d b i k e h =
+    let w = step-taken d i k e h in
+    let r = ready-of d (w .long) (w .sound) b in
+    let l = subst (λ (o : Out). Left d r (bytesOf d r o)) (w .is) (taken-left d r i) in
+    (l .ready .shaped .long, ready-sound e (l .ready), small-at e (taken-kept d (all-bytes d b) i k e (w .is)))
+
 pub sentences : Sentences
 sentences =
     record {
       run-length = refl;
-      map-length = (refl, refl);
+      run-offsets = (refl, refl, refl, refl, refl, refl, refl);
+      map-length = (refl, refl, refl);
       longest = λ s f a. no-longer s (all-bytes s (a .bytes)) f (a .end) (a .read);
       writer-accepts = writer-accepts;
       loading-decides-nothing = loading-decides-nothing;
@@ -382,8 +398,8 @@ sentences =
       held-is-owners = held-is-owners;
       told-is-owners = told-is-owners;
       owner-stays = owner-stays;
-      reached-sound = λ f n d a. (view a .ready .shaped .long, ready-sound d (view a .ready));
-      step-sound = λ d b i k e h. demand-2 .one-rule d b i k e h .2;
+      reached-sound = λ f n d a. (view a .ready .shaped .long, ready-sound d (view a .ready), small-at d (reached-kept (a .file) f (a .accepted) (a .carried)));
+      step-sound = step-sound;
       statements-held = statements-held;
       steps-largest = λ f n d a. counts.step-count-largest (f .table) (f .statements) (ok-of a) (view a .reached);
       held-largest = held-largest;

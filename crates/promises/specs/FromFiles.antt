@@ -2,7 +2,7 @@
 -- map that the statements alone determine.
 use mathlib.Core.Path.{_≡_}
 use mathlib.Core.Logic.{_⊎_}
-use mathlib.Core.List.{List, _++_}
+use mathlib.Core.List.{List, [], _∷_, _++_}
 use mathlib.Core.Option.{some}
 use Prim.Native.Nat.{ℕ, suc, _-_, _*_, _<_}
 use lib.ListN.{length, getElem?, replicate}
@@ -30,6 +30,17 @@ pub record Accepted (s : List ℕ) (f : File) : Type 0 where
 pub data FromFile (s : List ℕ) : ℕ → List ℕ → Type 0 where
   loaded : (before : List ℕ) {d : List ℕ} → loadBytes s before ≡ answer 0 0 d → FromFile s 0 d
   stepped : {n : ℕ} {d : List ℕ} → FromFile s n d → (i k : ℕ) {e : List ℕ} → stepBytes d i ≡ out 0 k e → FromFile s (suc n) e
+
+-- the bytes that accepted steps at these places, in their order, make of bytes
+pub data Along : List ℕ → List ℕ → List ℕ → Type 0 where
+  none-left : {d : List ℕ} → Along d [] d
+  one-more : {d e u is : List ℕ} (i k : ℕ) → stepBytes d i ≡ out 0 k e → Along e is u → Along d (i ∷ is) u
+
+-- why a list of places ends with number k when n are done, and leaves e: all are done, or "it stops at the first refused place and
+-- gives that number"
+pub data ListEnds (is e : List ℕ) : ℕ → ℕ → Type 0 where
+  all-done : ListEnds is e 0 (length is)
+  stops : {n k : ℕ} (i : ℕ) → getElem? is n ≡ some i → stepBytes e i ≡ out (suc k) 0 e → ListEnds is e (suc k) n
 
 -- "until it clashes or nothing is pending"
 abbrev pub HasClashed : List ℕ → Type 0

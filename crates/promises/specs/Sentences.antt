@@ -18,7 +18,8 @@ use Rattle.paper.specs.SameStatements.{SameItems, SameSet}
 use Rattle.paper.specs.Programs.{printedRun, printed}
 use Rattle.paper.specs.declared.Item.{Item}
 use Rattle.paper.specs.declared.Item.the-variants.{Statement as statement, Ask as ask, News as news}
-use Rattle.layout.specs.Offsets.{clashAt, runBytes, mapBytes}
+use Rattle.paper.specs.Sizes.{mostUnknowns}
+use Rattle.layout.specs.Offsets.{recordBytes, clashAt, tableAt, ownersAt, storesAt, memosAt, memoBytes, pendingAt, runBytes, rowBytes, mapBytes}
 use Rattle.layout.specs.Fields.{byteAt, countOf, clashOf, ownerOf, markOf, pairOf, itemAt, itemsFrom, tableOf, runOf}
 use Rattle.layout.specs.Soundness.{soundBytes}
 use Rattle.statements.specs.Loads.{loadedBytes}
@@ -96,8 +97,10 @@ pub record ProgramEnds (s : List ℕ) (f : File) : Type 0 where
 pub record Sentences : Type 0 where
   -- "The run's 59,752 bytes"
   pub run-length : runBytes ≡ 59752
+  -- the table's first column: records of 9 bytes from 8 on, owner marks, stores, memos of 1,024, pending items
+  pub run-offsets : (tableAt ≡ 8) × (recordBytes ≡ 9) × (ownersAt ≡ 584) × (storesAt ≡ 616) × (memosAt ≡ 872) × (memoBytes ≡ 1024) × (pendingAt ≡ 9064)
   -- "The map is 352 bytes: 32 rows of 11."
-  pub map-length : (mapBytes ≡ 352) × (mapBytes ≡ 32 * 11)
+  pub map-length : (mapBytes ≡ 352) × (rowBytes ≡ 11) × (mapBytes ≡ mostUnknowns * rowBytes)
   -- "The longest is 836 bytes."
   pub longest : (s : List ℕ) (f : File) → Accepted s f → length s ≤ 836
   -- "The writer accepts a run only as loading some file leaves it"
@@ -129,8 +132,10 @@ pub record Sentences : Type 0 where
   pub owner-stays : (d : List ℕ) → Bytes d → (i k : ℕ) (e : List ℕ) → stepBytes d i ≡ out 0 k e → (x u : ℕ)
       → ownerOf d x ≡ some u → ownerOf e x ≡ some u
   -- soundness is kept: from a file, and by every accepted step of any sound run
-  pub reached-sound : (f : File) (n : ℕ) (d : List ℕ) → FromAccepted f n d → (length d ≡ runBytes) × (soundBytes d ≡ true)
-  pub step-sound : (d : List ℕ) → Bytes d → (i k : ℕ) (e : List ℕ) → stepBytes d i ≡ out 0 k e → soundBytes e ≡ true
+  pub reached-sound : (f : File) (n : ℕ) (d : List ℕ) → FromAccepted f n d
+      → (length d ≡ runBytes) × (soundBytes d ≡ true) × Bytes d
+  pub step-sound : (d : List ℕ) → Bytes d → (i k : ℕ) (e : List ℕ) → stepBytes d i ≡ out 0 k e
+      → (length e ≡ runBytes) × (soundBytes e ≡ true) × Bytes e
   -- "nor holds more than 4E + 3SP statements"
   pub statements-held : (f : File) (n : ℕ) (d : List ℕ) → FromAccepted f n d
       → pendingStatements d ≤ mostHeld (f .table .cabinets) (f .table .unknowns) (length (f .statements))

@@ -121,13 +121,13 @@ pub record UselessBodies : Type 0 where
   pub clears-on-refusal : clearsOnRefusal [] lentRun ≢ loadBytes [] lentRun
   -- writing: "the file, then zeros"
   pub writes-no-zeros : writesNoZeros (loadedFrom ringFile) lentFile ≢ writtenBytes (loadedFrom ringFile) lentFile
-  -- "one constant map": whichever it is, it fails where the map of no unknowns is right
+  -- "one constant map": if it is right for the file of no unknowns, it is wrong for two open unknowns
   pub constant-map : (c : List ℕ) → constantMap c (loadedFrom emptyFile) lentMap ≡ mapBytesOf (loadedFrom emptyFile) lentMap
       → constantMap c (loadedFrom twoUnknowns) lentMap ≢ mapBytesOf (loadedFrom twoUnknowns) lentMap
   -- "a step that leaves the run as it is"
   pub leaves-the-run : leavesTheRun (loadedFrom clashFile) 0 ≢ stepBytes (loadedFrom clashFile) 0
   -- "a list that carries out its first place and claims the rest,"
   pub first-place-only : firstPlaceOnly (loadedFrom clashFile) (0 ∷ 0 ∷ []) ≢ stepsBytes (loadedFrom clashFile) (0 ∷ 0 ∷ [])
-  -- "or gives an invented number done": whichever it is, it fails where it is right of no places
+  -- "or gives an invented number done": if it is right for an empty list, it is wrong for two places
   pub invented-number : (m : ℕ) → inventedNumber m (loadedFrom clashFile) [] ≡ stepsBytes (loadedFrom clashFile) []
       → inventedNumber m (loadedFrom clashFile) (0 ∷ 0 ∷ []) ≢ stepsBytes (loadedFrom clashFile) (0 ∷ 0 ∷ [])
