@@ -1,3 +1,4 @@
+pub mod SoundMemos
 pub mod SoundNumbers
 pub mod SoundRegions
 pub mod SoundZeros

@@ -7,15 +7,21 @@ use borrow.Author.Tests.{lt-ltb, le-ltb, le-leb, lt-leb, ne-eqb, leb-true, not-f
 use Rattle.base.specs.Choice.{pick}
 use Rattle.base.proofs.Tests.{fst-true, snd-true}
 use Rattle.paper.specs.Sizes.{mostCabinets, mostUnknowns, mostRecords, mostStatements, room}
-use Rattle.layout.specs.Soundness.{lesser, clashOk, sizesOk, markOk, pairOk, itemOk}
+use Rattle.layout.specs.Soundness.{lesser, clashOk, sizesOk, markOk, itemOk}
 
--- one byte more that must be 0
+-- one byte more that must be 0, or at most 1
 module _ (x : ℕ) (clean : Bool) where
   pub no-longer-zero : (x ≡ 0 → ⊥) → false ≡ (eqb x 0 && clean)
   no-longer-zero h = rw (ne-eqb x 0 h)
 
   pub zero-still : x ≡ 0 → clean ≡ (eqb x 0 && clean)
   zero-still e = rw e
+
+  pub no-longer-bit : 1 < x → false ≡ (leb x 1 && clean)
+  no-longer-bit h = rw (lt-leb x 1 h)
+
+  pub bit-still : x ≤ 1 → clean ≡ (leb x 1 && clean)
+  bit-still h = rw (le-leb x 1 h)
 
 -- a choice by an order of numbers
 module _ {A : Type 0} (b x y : A) (k n : ℕ) where
@@ -118,28 +124,6 @@ module _ (v r x m : ℕ) where
   pub mark-entry : (b : Bool) → (m ≡ 255 → ⊥) → (m ≡ 254 → ⊥) → b ≡ lesser v r m x → b ≡ markOk v r x m
   unfolding markOk
   mark-entry b h k e = rw (ne-eqb m 255 h, ne-eqb m 254 k) e
-
-module _ (s v c x y b : ℕ) where
-  pub pair-none : b ≡ 0 → true ≡ pairOk s v c x y b
-  unfolding pairOk
-  pair-none e = rw e
-
-  pub pair-other : (b ≡ 0 → ⊥) → (b ≡ 1 → ⊥) → false ≡ pairOk s v c x y b
-  unfolding pairOk
-  pair-other h k = rw (ne-eqb b 0 h, ne-eqb b 1 k)
-
-  module _ (e : b ≡ 1) where
-    pub pair-no-cabinet : s ≤ c → false ≡ pairOk s v c x y b
-    unfolding pairOk
-    pair-no-cabinet h = rw (e, le-ltb c s h)
-
-    pub pair-no-unknown : c < s → v ≤ x → false ≡ pairOk s v c x y b
-    unfolding pairOk
-    pair-no-unknown h k = rw (e, lt-ltb c s h, le-ltb x v k)
-
-    pub pair-ordered : c < s → x < v → ltb y x ≡ pairOk s v c x y b
-    unfolding pairOk
-    pair-ordered h k = rw (e, lt-ltb c s h, lt-ltb x v k)
 
 module _ (s v r k c a b : ℕ) where
   pub item-no-cabinet : s ≤ c → false ≡ itemOk s v r k c a b

@@ -10,9 +10,9 @@ use borrow.Author.Tests.{le-leb, lt-leb, ne-eqb, not-true, not-false}
 use Rattle.base.specs.Choice.{pick, allBelow}
 use Rattle.base.proofs.Ranges.{below-more, below-all, below-fails}
 use Rattle.paper.specs.Sizes.{mostParts}
-use Rattle.layout.specs.Offsets.{clashAt, clashCabinetAt, cabinetsAt, unknownsAt, recordsAt, statementsAt, countAt, ownersAt, storeFrom, memoFrom, itemFrom}
+use Rattle.layout.specs.Offsets.{clashAt, clashCabinetAt, cabinetsAt, unknownsAt, recordsAt, statementsAt, countAt, ownersAt, storeFrom, itemFrom}
 use Rattle.layout.specs.Fields.{byteAt, countOf, partCountOf, partOf}
-use Rattle.layout.specs.Soundness.{lesser, clashOk, sizesOk, partsOk, ownerOk, markOk, pairOk, itemOk, regionsOk, soundBytes}
+use Rattle.layout.specs.Soundness.{lesser, clashOk, sizesOk, partsOk, ownerOk, markOk, itemOk, regionsOk, soundBytes}
 
 -- a loop over the numbers below n, whose test of i says b: it goes on, stops, or has passed all
 module _ (f : ℕ → Bool) (i : ℕ) where
@@ -36,16 +36,12 @@ module _ (b p q : Bool) (e : b ≡ p) where
   pub and-stops : not b ≡ true → false ≡ (p && q)
   and-stops k = rw (← e, not-true b k)
 
--- the tests that a region's loop makes: of part place k of record i, of the mark for x in cabinet c's store, and of the byte for
--- x and y in its memo
+-- the tests that a region's loop makes: of part place k of record i, and of the mark for x in cabinet c's store
 abbrev pub partOk : ℕ → ℕ → List ℕ → ℕ → Bool
 partOk v i d k = pick (ltb k (partCountOf d i)) (ltb (partOf d i k) v) (eqb (partOf d i k) 0)
 
 abbrev pub heldOk : ℕ → ℕ → ℕ → List ℕ → ℕ → ℕ → Bool
 heldOk s v r d c x = pick (ltb c s) (markOk v r x (byteAt d (storeFrom c + x))) (eqb (byteAt d (storeFrom c + x)) 255)
-
-abbrev pub pairAtOk : ℕ → ℕ → List ℕ → ℕ → ℕ → ℕ → Bool
-pairAtOk s v d c x y = pairOk s v c x y (byteAt d (memoFrom c x y))
 
 module _ (v i n : ℕ) (d : List ℕ) (e : n ≡ partCountOf d i) where
   pub part-read : (k p : ℕ) (b : Bool) → p ≡ partOf d i k → b ≡ pick (ltb k n) (ltb p v) (eqb p 0) → b ≡ partOk v i d k
@@ -84,13 +80,6 @@ module _ (s v r c x m : ℕ) (d : List ℕ) (b : Bool) (e : m ≡ byteAt d (stor
 
   pub held-more : not b ≡ false → allBelow x (heldOk s v r d c) ≡ true → allBelow (x + 1) (heldOk s v r d c) ≡ true
   held-more t a = goes-on (heldOk s v r d c) x b a held-read t
-
-module _ (s v c x y m : ℕ) (d : List ℕ) (b : Bool) (e : m ≡ byteAt d (memoFrom c x y)) (h : b ≡ pairOk s v c x y m) where
-  pub pair-read : b ≡ pairAtOk s v d c x y
-  pair-read = rw (← e) h
-
-  pub pair-more : not b ≡ false → allBelow y (pairAtOk s v d c x) ≡ true → allBelow (y + 1) (pairAtOk s v d c x) ≡ true
-  pair-more t a = goes-on (pairAtOk s v d c x) y b a pair-read t
 
 pub item-read : (s v r p k c l m : ℕ) (d : List ℕ) (b : Bool)
     → k ≡ byteAt d (itemFrom p)

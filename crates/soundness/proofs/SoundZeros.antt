@@ -1,6 +1,7 @@
--- Laws of bytes that must be 0: rows of them in one test, and a region whose rows from some number on must be 0.
+-- Laws of a loop with no way out, and of bytes that must be 0: a region whose rows from some number on must be 0 asks one test of
+-- them all.
 use mathlib.Core.Path.{_≡_, refl, sym, _∙_}
-use mathlib.Core.Bool.{Bool, true, false, _&&_}
+use mathlib.Core.Bool.{Bool, true, _&&_, and-assoc, and-comm}
 use mathlib.Core.List.{List}
 use Prim.Native.Nat.{ℕ, zero, suc, _+_, _-_, _*_, _≤_, _<_}
 use native.Mathlib.Nat.{add-assoc, add-zero, add-suc, mul-zero, mul-suc, mul-add}
@@ -16,29 +17,44 @@ use Rattle.layout.specs.Fields.{byteAt}
 use Rattle.layout.specs.Soundness.{zerosAt, partsOk, recordOk, recordsOk, itemOk, placeOk, itemsOk}
 use Rattle.soundness.proofs.SoundNumbers.{chosen-below}
 
-and-assoc : (a b c : Bool) → (a && (b && c)) ≡ ((a && b) && c)
-and-assoc true b c = refl
-and-assoc false b c = refl
+-- a loop with no way out, after the tests of the numbers below i
+module _ (f : ℕ → Bool) where
+  pub tested-none : true ≡ allBelow 0 f
+  unfolding allBelow
+  tested-none = refl
 
+  pub tested-next : (i : ℕ) (b clean : Bool) → b ≡ (f i && clean) → clean ≡ allBelow i f → b ≡ allBelow (i + 1) f
+  unfolding allBelow
+  tested-next i b clean e h = rw (add-one, ← h) e
+
+  pub tested-all : (n i : ℕ) (clean : Bool) → clean ≡ allBelow i f → i ≤ n → n ≤ i → clean ≡ allBelow n f
+  tested-all n i clean h l k = let e : i ≡ n = omega arith in rw e at h
+
+-- all below a number: those below a lesser one, and those after them; and two tests that say the same
+below-cut : (f : ℕ → Bool) (a b : ℕ) → allBelow (a + b) f ≡ (allBelow b (λ i. f (a + i)) && allBelow a f)
+unfolding allBelow
+below-cut f a zero = rw add-zero
+below-cut f a (suc b) = rw (add-suc, below-cut f a b) (sym (and-assoc (f (a + b)) (allBelow b (λ i. f (a + i))) (allBelow a f)))
+
+pub below-parts : (f : ℕ → Bool) (m n : ℕ) → n ≤ m → allBelow m f ≡ (allBelow n f && allBelow (m - n) (λ i. f (n + i)))
+below-parts f m n l =
+    let e : n + (m - n) ≡ m = omega arith in
+    (rw e at (below-cut f n (m - n))) ∙ and-comm (allBelow (m - n) (λ i. f (n + i))) (allBelow n f)
+
+pub below-same : (f g : ℕ → Bool) (n : ℕ) → ((i : ℕ) → i < n → f i ≡ g i) → allBelow n f ≡ allBelow n g
+unfolding allBelow
+below-same f g zero h = refl
+below-same f g (suc n) h = rw (h n (omega arith), below-same f g n (λ i l. h i (omega arith)))
+
+-- no bytes from `at` on, and a bytes with b bytes after them
 module _ (at : ℕ) (d : List ℕ) where
-  -- a loop that has tested i bytes
-  pub zeros-none : true ≡ zerosAt 0 at d
-  unfolding zerosAt allBelow
-  zeros-none = refl
+  zeros-none : true ≡ zerosAt 0 at d
+  unfolding zerosAt
+  zeros-none = tested-none (λ i. eqb (byteAt d (at + i)) 0)
 
-  pub zeros-next : (i : ℕ) (b clean : Bool) → b ≡ (eqb (byteAt d (at + i)) 0 && clean) → clean ≡ zerosAt i at d → b ≡ zerosAt (i + 1) at d
-  unfolding zerosAt allBelow
-  zeros-next i b clean e h = rw (add-one, ← h) e
-
-  pub zeros-whole : (n i : ℕ) (clean : Bool) → clean ≡ zerosAt i at d → i ≤ n → n ≤ i → clean ≡ zerosAt n at d
-  zeros-whole n i clean h l k = let e : i ≡ n = omega arith in rw e at h
-
-  -- a bytes, and the b after them
   zeros-cut : (a b : ℕ) → zerosAt (a + b) at d ≡ (zerosAt b (at + a) d && zerosAt a at d)
-  unfolding zerosAt allBelow
-  zeros-cut a zero = rw add-zero
-  zeros-cut a (suc b) =
-      rw (add-suc, zeros-cut a b, ← add-assoc) (and-assoc (eqb (byteAt d (at + a + b)) 0) (zerosAt b (at + a) d) (zerosAt a at d))
+  unfolding zerosAt
+  zeros-cut a b = simp add-assoc (below-cut (λ i. eqb (byteAt d (at + i)) 0) a b)
 
 -- tests of rows of w bytes from `at` on, of which those from n on must be 0
 module _ (f : ℕ → Bool) (w at n : ℕ) (d : List ℕ) (z : (i : ℕ) → n ≤ i → f i ≡ zerosAt w (at + w * i) d)

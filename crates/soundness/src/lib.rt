@@ -3,13 +3,13 @@
 ghost use mathlib.Core.Path.{_≡_};
 ghost use mathlib.Core.Bool.{_&&_};
 ghost use Prim.Native.Nat.{_+_, _<_, _≤_};
-ghost use lib.Dec.{ltb, eqb};
+ghost use lib.Dec.{ltb, leb, eqb};
 ghost use lib.ListN.{length};
-ghost use Rattle.base.specs.Choice.{pick};
+ghost use Rattle.base.specs.Choice.{pick, allBelow};
 ghost use Rattle.paper.specs.Sizes.{mostCabinets, mostUnknowns, mostRecords, room};
 ghost use Rattle.layout.specs.Offsets.{runBytes, itemFrom};
 ghost use Rattle.layout.specs.Fields.{byteAt};
-ghost use Rattle.layout.specs.Soundness.{zerosAt, lesser, clashOk, sizesOk, partsOk, recordsOk, ownerOk, ownersOk, markOk, storeOk, storesOk, pairOk, memoRowOk, memoOk, memosOk, itemOk, itemsOk, regionsOk, soundBytes};
+ghost use Rattle.layout.specs.Soundness.{zerosAt, lesser, clashOk, sizesOk, partsOk, recordsOk, ownerOk, ownersOk, markOk, storeOk, storesOk, memoRowOk, memoOk, memosOk, itemOk, itemsOk, regionsOk, soundBytes};
 
 // The limits of document 01.
 const MOST_CABINETS: usize = 8;
@@ -75,6 +75,30 @@ fn zeros_at(run: &[u8], n: usize, at: usize) -> bool
     let mut i = 0;
     while i < n {
         clean = still_zero(clean, run[at + i]);
+        i += 1;
+    }
+    clean
+}
+
+// Whether x is 0 or 1, and the bytes before it were.
+fn still_bit(clean: bool, x: u8) -> bool
+    ensures { λ b. ⌜ b ≡ (leb x 1 && clean) ⌝ }
+{
+    if x > 1 {
+        return false;
+    }
+    clean
+}
+
+// Whether the n bytes from `at` on are 0 or 1, in a loop like that of `zeros_at`.
+fn bits_at(run: &[u8], n: usize, at: usize) -> bool
+    requires { ⌜ at + n ≤ length (now run) ⌝ }
+    ensures { λ b. ⌜ b ≡ allBelow n (λ i. leb (byteAt (now (run .entry)) (at + i)) 1) ⌝ }
+{
+    let mut clean = true;
+    let mut i = 0;
+    while i < n {
+        clean = still_bit(clean, run[at + i]);
         i += 1;
     }
     clean
@@ -261,46 +285,41 @@ fn stores_ok(run: &[u8], s: usize, v: usize, r: usize) -> bool
     true
 }
 
-// Whether b can stand for the pair of x and y in cabinet c's memo: 0, or 1 for two unknowns in order below S.
-fn pair_ok(s: usize, v: usize, c: usize, x: usize, y: usize, b: usize) -> bool
-    ensures { λ k. ⌜ k ≡ pairOk s v c x y b ⌝ }
+// How many bytes for the greater unknown x in cabinet c's memo can be 1: one for each smaller unknown, or none if there is no such
+// cabinet or no such unknown.
+fn pairs_of(s: usize, v: usize, c: usize, x: usize) -> usize
+    ensures { λ n. ⌜ (n ≡ pick (ltb c s && ltb x v) x 0) × (n ≤ x) ⌝ }
 {
-    if b == 0 {
-        return true;
-    }
-    if b != 1 {
-        return false;
-    }
     if c >= s {
-        return false;
+        return 0;
     }
-    if x >= v {
-        return false;
+    if x < v {
+        return x;
     }
-    y < x
+    0
 }
 
-// Whether the 32 bytes for the greater unknown x in cabinet c's memo are sound.
+// Whether the 32 bytes for the greater unknown x in cabinet c's memo are sound: 0 or 1 where a pair can stand, then 0.
 fn memo_row_ok(run: &[u8], s: usize, v: usize, c: usize, x: usize) -> bool
     requires { ⌜ (length (now run) ≡ runBytes) × (c < mostCabinets) × (x < mostUnknowns) ⌝ }
     ensures { λ b. ⌜ b ≡ memoRowOk s v (now (run .entry)) c x ⌝ }
 {
-    let mut y = 0;
-    while y < MOST_UNKNOWNS {
-        let b = wide(run[MEMOS_AT + MEMO_BYTES * c + MOST_UNKNOWNS * x + y]);
-        if !pair_ok(s, v, c, x, y, b) {
-            return false;
-        }
-        y += 1;
+    let at = MEMOS_AT + MEMO_BYTES * c + MOST_UNKNOWNS * x;
+    let n = pairs_of(s, v, c, x);
+    if !bits_at(run, n, at) {
+        return false;
     }
-    true
+    zeros_at(run, MOST_UNKNOWNS - n, at + n)
 }
 
-// Whether cabinet c's memo is sound.
+// Whether cabinet c's memo is sound. Most memos have no pair, which one test shows.
 fn memo_ok(run: &[u8], s: usize, v: usize, c: usize) -> bool
     requires { ⌜ (length (now run) ≡ runBytes) × (c < mostCabinets) ⌝ }
     ensures { λ b. ⌜ b ≡ memoOk s v (now (run .entry)) c ⌝ }
 {
+    if zeros_at(run, MEMO_BYTES, MEMOS_AT + MEMO_BYTES * c) {
+        return true;
+    }
     let mut x = 0;
     while x < MOST_UNKNOWNS {
         if !memo_row_ok(run, s, v, c, x) {

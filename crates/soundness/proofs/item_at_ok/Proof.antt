@@ -1,7 +1,6 @@
 -- `item_at_ok` meets its contract. An item as read.
 use borrow.Author.Needs.{needs}
 use Rattle.soundness.proofs.SoundRegions.{item-read}
-use borrow.Author.Needs.{needs}
 use Rattle.soundness.proofs.item_at_ok.Statement.{statement}
 use Rattle.soundness.proofs.item_at_ok.Tie as tie
 

@@ -5,9 +5,9 @@ use mathlib.Core.Path.{_≡_}
 use borrow.Author.Needs.{needs}
 use Rattle.base.proofs.Ranges.{below-none}
 use Rattle.base.specs.Choice.{allBelow}
-use Rattle.layout.specs.Soundness.{placeOk, itemsOk}
+use Rattle.layout.specs.Soundness.{itemsOk, placeOk}
 use Rattle.soundness.proofs.SoundRegions.{goes-on, stops-below}
-use Rattle.soundness.proofs.SoundZeros.{place-item, items-rest}
+use Rattle.soundness.proofs.SoundZeros.{items-rest, place-item}
 use Rattle.soundness.proofs.items_ok.Statement.{statement}
 use Rattle.soundness.proofs.items_ok.Tie as tie
 

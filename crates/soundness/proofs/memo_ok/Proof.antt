@@ -1,4 +1,4 @@
--- `memo_ok` meets its contract. The loop has passed x rows that are sound.
+-- `memo_ok` meets its contract. The memo has no pair; else the loop has passed x rows that are sound.
 use Prim.Native.Nat.{_≤_, _-_}
 use mathlib.Core.Bool.{true}
 use mathlib.Core.Path.{_≡_}
@@ -7,6 +7,7 @@ use Rattle.base.proofs.Ranges.{below-none}
 use Rattle.base.specs.Choice.{allBelow}
 use Rattle.paper.specs.Sizes.{mostUnknowns}
 use Rattle.layout.specs.Soundness.{memoOk, memoRowOk}
+use Rattle.soundness.proofs.SoundMemos.{memo-none}
 use Rattle.soundness.proofs.SoundRegions.{goes-on, passed-all, stops}
 use Rattle.soundness.proofs.memo_ok.Statement.{statement}
 use Rattle.soundness.proofs.memo_ok.Tie as tie
@@ -17,15 +18,27 @@ Inv-loop run s v c x₀ x = (x ≤ mostUnknowns) × (allBelow x (memoRowOk s v r
 abbrev μ-loop : tie.MeasureT-loop
 μ-loop run s v c x₀ x = mostUnknowns - x
 
+mul-zeros-at : tie.Need-mul-zeros-at Inv-loop μ-loop
+mul-zeros-at c = search needs
+
+add-zeros-at : tie.Need-add-zeros-at Inv-loop μ-loop
+add-zeros-at c = search needs
+
+zeros-at-requires : tie.Need-zeros-at-requires Inv-loop μ-loop
+zeros-at-requires c κs = search needs
+
+returns : tie.Need-returns Inv-loop μ-loop
+returns c = search memo-none
+
 loop-holds : tie.Need-loop-holds Inv-loop μ-loop
 loop-holds c = (search needs, search below-none)
 
 memo-row-ok-requires : tie.Need-memo-row-ok-requires Inv-loop μ-loop
 memo-row-ok-requires c κs = search needs
 
-returns : tie.Need-returns Inv-loop μ-loop
+returns-2 : tie.Need-returns-2 Inv-loop μ-loop
 unfolding memoOk
-returns c = search stops
+returns-2 c = search stops
 
 add-x : tie.Need-add-x Inv-loop μ-loop
 add-x c = search needs
@@ -36,9 +49,9 @@ loop-less c = search needs
 loop-again : tie.Need-loop-again Inv-loop μ-loop
 loop-again c = (search needs, search goes-on)
 
-returns-2 : tie.Need-returns-2 Inv-loop μ-loop
+returns-3 : tie.Need-returns-3 Inv-loop μ-loop
 unfolding memoOk
-returns-2 c = search passed-all
+returns-3 c = search passed-all
 
 pub memo-ok-spec : {M : Type 1} → statement M
 memo-ok-spec =
@@ -46,10 +59,14 @@ memo-ok-spec =
     (tie.spec
     Inv-loop
     μ-loop
+    mul-zeros-at
+    add-zeros-at
+    zeros-at-requires
+    returns
     loop-holds
     memo-row-ok-requires
-    returns
+    returns-2
     add-x
     loop-less
     loop-again
-    returns-2)
+    returns-3)

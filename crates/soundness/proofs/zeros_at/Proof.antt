@@ -3,7 +3,7 @@ use Prim.Native.Nat.{_≤_, _-_}
 use mathlib.Core.Path.{_≡_}
 use borrow.Author.Needs.{needs}
 use Rattle.layout.specs.Soundness.{zerosAt}
-use Rattle.soundness.proofs.SoundZeros.{zeros-none, zeros-next, zeros-whole}
+use Rattle.soundness.proofs.SoundZeros.{tested-all, tested-next, tested-none}
 use Rattle.soundness.proofs.zeros_at.Statement.{statement}
 use Rattle.soundness.proofs.zeros_at.Tie as tie
 
@@ -14,7 +14,8 @@ abbrev μ-loop : tie.MeasureT-loop
 μ-loop run n at clean₀ i₀ clean i = n - i
 
 loop-holds : tie.Need-loop-holds Inv-loop μ-loop
-loop-holds c = (search needs, search zeros-none)
+unfolding zerosAt
+loop-holds c = (search needs, search tested-none)
 
 add-still-zero : tie.Need-add-still-zero Inv-loop μ-loop
 add-still-zero c = search needs
@@ -32,10 +33,12 @@ loop-less : tie.Need-loop-less Inv-loop μ-loop
 loop-less c = search needs
 
 loop-again : tie.Need-loop-again Inv-loop μ-loop
-loop-again c = (search needs, search zeros-next)
+unfolding zerosAt
+loop-again c = (search needs, search tested-next)
 
 returns : tie.Need-returns Inv-loop μ-loop
-returns c = search zeros-whole
+unfolding zerosAt
+returns c = search tested-all
 
 pub zeros-at-spec : {M : Type 1} → statement M
 zeros-at-spec =
