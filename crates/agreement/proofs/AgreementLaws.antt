@@ -1,5 +1,5 @@
 -- What each way through the two functions of agreement gives, and why they end.
-use mathlib.Core.Path.{_≡_, sym, subst, subst₂, _∙_}
+use mathlib.Core.Path.{_≡_, refl, sym, subst, subst₂, _∙_}
 use mathlib.Core.Logic.{_⊎_, ⊎-elim}
 use mathlib.Core.Bool.{Bool, true, false, not}
 use mathlib.Core.List.{List}
@@ -9,6 +9,7 @@ use native.Mathlib.Omega.{arith}
 use borrow.Author.Tests.{not-true, not-false, ne-eqb, eqb-true}
 use lib.Dec.{eqb}
 use lib.ListN.{replicate}
+use Rattle.base.specs.Choice.{pick}
 use Rattle.base.specs.Lists.{listFrom}
 use Rattle.base.proofs.Tests.{snd-true}
 use Rattle.base.proofs.Regions.{lt-or-le}
@@ -25,20 +26,22 @@ use Rattle.layout.proofs.SoundViews.{Bytes, table-ok}
 use Rattle.layout.proofs.ViewedFields.{head-byte}
 use Rattle.agreement.specs.Given.{SoundRun}
 use Rattle.agreement.specs.Ends.{endsOf, EndsAt}
-use Rattle.agreement.specs.Met.{metOf}
+use Rattle.agreement.specs.Met.{metOf, settledIn}
 use Rattle.agreement.proofs.Ranges.{tests}
 use Rattle.agreement.proofs.Chains.{open-end, record-end}
-use Rattle.agreement.proofs.MetTable.{none-met}
+use Rattle.agreement.proofs.MetTable.{two-unknowns, not-met, none-met}
 
 abbrev Table : Type 0
 Table = ℕ → ℕ → Bool
 
-module _ (e : ℕ → End) (x y : ℕ) (m : Table) where
-  pub same-unknown : x ≡ y → Unknowns e x y m true m
-  same-unknown d = subst (λ (z : ℕ). Unknowns e x z m true m) d same
-
-  pub met-before : (b : Bool) → b ≡ isMet m x y → b ≡ true → Unknowns e x y m true m
-  met-before b d t = already (sym d ∙ t)
+-- a pair that is not to be compared agrees, and the table stays
+pub settled-agrees : (e : ℕ → End) (x y : ℕ) (m : Table) → settledIn m x y ≡ true → Unknowns e x y m true m
+unfolding settledIn
+settled-agrees e x y m h = by-test (eqb x y) refl h
+  where
+    by-test : (b : Bool) → eqb x y ≡ b → pick b true (isMet m x y) ≡ true → Unknowns e x y m true m
+    by-test true d t = subst (λ (z : ℕ). Unknowns e x z m true m) (eqb-true x y d) same
+    by-test false d t = already t
 
 -- two records whose heads were found the same
 same-count : (d : List ℕ) (i k : ℕ) (c : Bool) → c ≡ sameHead (recordOf d i) (recordOf d k) → not c ≡ false → partCountOf d i ≡ partCountOf d k
@@ -51,10 +54,13 @@ pub same-counted : (d : List ℕ) (i k p : ℕ) (c : Bool) → c ≡ sameHead (r
 same-counted d i k p c h t r = r .same ∙ same-count d i k c h t
 
 -- a pair that is met for the first time, with the ends of both
-module _ (d : List ℕ) (v x y a b : ℕ) (m m′ : Table) (g : SoundRun d v) (was : Bool) (n : x ≡ y → ⊥) (w : was ≡ isMet m x y)
-    (f : was ≡ false) (next : m′ ≡ meeting m x y) (ex : EndsAt d x a) (ey : EndsAt d y b) where
+module _ (d : List ℕ) (v x y a b : ℕ) (m m′ : Table) (g : SoundRun d v) (f : settledIn m x y ≡ false)
+    (next : m′ ≡ meeting m x y) (ex : EndsAt d x a) (ey : EndsAt d y b) where
+  n : x ≡ y → ⊥
+  n = two-unknowns m x y f
+
   new : isMet m x y ≡ false
-  new = sym w ∙ f
+  new = not-met m x y f
 
   open-x : a < v → endsOf d x ≡ atOpen a
   open-x h = ex .is ∙ open-end d a (omega (arith, g .unknowns))
@@ -95,9 +101,9 @@ module _ (d : List ℕ) (v x y a b : ℕ) (m m′ : Table) (g : SoundRun d v) (w
           (same-counted d (a - v) (b - v) p c k t r) (rw next at ps))
 
 -- "pairs not yet met fall"
-pub new-pair-falls : (t v x y : ℕ) (m m′ : Table) (was : Bool) → m′ ≡ meeting m x y → was ≡ isMet m x y → was ≡ false → x < v → y < v
+pub new-pair-falls : (t v x y : ℕ) (m m′ : Table) → m′ ≡ meeting m x y → settledIn m x y ≡ false → x < v → y < v
     → 2 * unmet v m ≡ t → 2 * unmet v m′ + 1 < t
-new-pair-falls t v x y m m′ was next w f hx hy e = rw next (omega (arith, unmet-falls v m x y hx hy (sym w ∙ f)))
+new-pair-falls t v x y m m′ next f hx hy e = rw next (omega (arith, unmet-falls v m x y hx hy (not-met m x y f)))
 
 -- the parts before place j agree, which has led from the table m₀ to m: what the rest answers is the answer, and no pair is lost
 pub record Compared (v : ℕ) (e : ℕ → End) (f g : ℕ → ℕ) (n j : ℕ) (m₀ m : Table) : Type 0 where
@@ -139,6 +145,12 @@ module _ (v : ℕ) (e : ℕ → End) (f g : ℕ → ℕ) (n : ℕ) where
                 (subst (λ (k : ℕ). Parts e (listFrom f (n - (j + 1)) k) (listFrom g (n - (j + 1)) k) m′ b m″) (add-one j) ps)));
             fewer = omega (arith, w .fewer, unmet-le v m m′ (met-keeps e u));
           }
+
+  -- a pair that is not to be compared is passed over
+  pub settled-compared : (j : ℕ) (m₀ m : Table) (p q : ℕ) (b : Bool) → Compared v e f g n j m₀ m → b ≡ settledIn m p q → not b ≡ false → j < n
+      → Reads (f j) byteLimit p → Reads (g j) byteLimit q → Compared v e f g n (j + 1) m₀ m
+  settled-compared j m₀ m p q b w k t h rp rq =
+      one-more-compared j m₀ m w p q true m (settled-agrees e p q m (sym k ∙ not-false b t)) h rp rq refl
 
 unknowns-are : (d : List ℕ) (v : ℕ) → SoundRun d v → v ≡ tableOf d .unknowns
 unfolding tableOf

@@ -1,11 +1,12 @@
 -- Bits of a number by quotient and remainder: what adding a power of two at a bit that is 0 does to each bit and to the size.
 use mathlib.Core.Path.{_≡_, refl, sym, ap, _∙_}
-use Prim.Native.Nat.{ℕ, zero, suc, _+_, _*_, _/_, _%_, _^_, _≤_, _<_}
-use native.Mathlib.Nat.{div-one, pow-succ', two-pow-succ, div-div-eq-div-mul, one-le-pow, pow-le-pow-right}
-use native.Mathlib.Numerals.{add-one}
+use Prim.Native.Nat.{ℕ, zero, suc, _+_, _*_, _/_, _%_, _^_, _<_}
+use native.Mathlib.Nat.{div-one, pow-succ', two-pow-succ, div-div-eq-div-mul, one-mul}
 use native.Mathlib.Omega.{arith}
+use lib.Dec.{lit<}
+use lib.Pow.{shl-exact}
 use Rattle.paper.specs.Sizes.{mostUnknowns, numberLimit}
-use Rattle.agreement.specs.Met.{bitOf, Power}
+use Rattle.agreement.specs.Met.{bitOf}
 
 -- bit q by halving q times
 halved : ℕ → ℕ → ℕ
@@ -42,6 +43,10 @@ halved-fits n zero (suc k) l s h = omega (arith, two-pow-succ k)
 halved-fits n (suc q) (suc k) l s h =
     omega (arith, two-pow-succ k, two-pow-succ q, halved-fits (n / 2) q k (omega arith) (omega (arith, two-pow-succ k)) h)
 
+-- 1 shifted, in a word
+one-shifted : (q : ℕ) → q < mostUnknowns → 1 * 2 ^ q % 2 ^ 32 ≡ 2 ^ q
+one-shifted q l = shl-exact {a = 1} 1 q 32 (lit< tt) (omega arith) ∙ one-mul (2 ^ q)
+
 module _ (n q : ℕ) (free : bitOf n q ≡ 0) where
   was-free : halved n q ≡ 0
   was-free = sym (bit-halved n q) ∙ free
@@ -52,30 +57,14 @@ module _ (n q : ℕ) (free : bitOf n q ≡ 0) where
   pub bit-other : (k : ℕ) → (k ≡ q → ⊥) → bitOf (n + 2 ^ q) k ≡ bitOf n k
   bit-other k d = bit-halved (n + 2 ^ q) k ∙ halved-other n q k d was-free ∙ sym (bit-halved n k)
 
-  pub bit-fits : (r : ℕ) → Power q r → q < mostUnknowns → n < numberLimit → n + r < numberLimit
-  bit-fits r p l s = rw (p .is) (halved-fits n q mostUnknowns l s was-free)
+  pub bit-fits : q < mostUnknowns → n < numberLimit → n + 1 * 2 ^ q % 2 ^ 32 < numberLimit
+  bit-fits l s = rw (one-shifted q l) (halved-fits n q mostUnknowns l s was-free)
 
 -- a bit is 0 or 1
 pub bit-small : (n q : ℕ) → bitOf n q < 2
 unfolding bitOf
 bit-small n q = omega arith
 
--- 2 to the power of a number below 32 fits a word, and so does its double below 31
-pub power-fits : (q n i : ℕ) → q < mostUnknowns → i < q → n ≡ 2 ^ i → 2 * n < numberLimit
-power-fits q n i h l e =
-    let k : suc i ≤ 31 = omega arith in
-    let d : 2 ^ suc i ≤ 2 ^ 31 = pow-le-pow-right (omega arith) k in
-    omega (arith, two-pow-succ i)
-
-pub power-more : (n i : ℕ) → n ≡ 2 ^ i → 2 * n ≡ 2 ^ (i + 1)
-power-more n i e = rw (add-one, pow-succ', e) refl
-
-pub power-made : (q n i : ℕ) → i ≤ q → q ≤ i → n ≡ 2 ^ i → Power q n
-power-made q n i h l e =
-    let d : i ≡ q = omega arith in
-    record { is = rw d at e; some = omega (arith, one-le-pow i 2 (omega arith)) }
-
--- a bit as the code computes it
-pub bit-read : (n q r : ℕ) → Power q r → n / r % 2 ≡ bitOf n q
-unfolding bitOf
-bit-read n q r p = rw (p .is) refl
+-- a bit added as the code computes it
+pub bit-added : (n q : ℕ) → q < mostUnknowns → n + 1 * 2 ^ q % 2 ^ 32 ≡ n + 2 ^ q
+bit-added n q l = ap (λ (k : ℕ). n + k) (one-shifted q l)

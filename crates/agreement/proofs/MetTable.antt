@@ -1,20 +1,21 @@
 -- The table of met pairs in words is the paper's table: read, with a pair put in, and empty.
-use mathlib.Core.Path.{_≡_, refl, ap, _∙_, fun-ext}
+use mathlib.Core.Path.{_≡_, refl, sym, ap, _∙_, fun-ext}
 use mathlib.Core.Logic.{⊎-elim}
-use mathlib.Core.Bool.{true, false}
+use mathlib.Core.Bool.{Bool, true, false, not}
 use mathlib.Core.List.{List}
 use Prim.Native.Nat.{ℕ, max, min, _+_, _^_, _≤_, _<_}
 use native.Mathlib.Nat.{zero-div}
 use native.Mathlib.Omega.{arith}
-use borrow.Author.Tests.{eqb-false}
+use borrow.Author.Tests.{eq-eqb, ne-eqb, eqb-false, not-true}
 use lib.Dec.{eqb}
 use lib.ListN.{length, getD, set, replicate, getD-replicate, length-replicate, List·getD-eq-default}
 use lib.Seq.{getD-set-same, getD-set-other}
 use Rattle.base.specs.Choice.{upd}
+use Rattle.base.proofs.Tests.{not-both}
 use Rattle.base.proofs.Changes.{upd-is}
 use Rattle.base.proofs.Regions.{lt-or-le}
 use Rattle.paper.specs.Ends.{isMet, meeting}
-use Rattle.agreement.specs.Met.{bitOf, metOf}
+use Rattle.agreement.specs.Met.{bitOf, metOf, settledIn}
 use Rattle.agreement.proofs.Bits.{bit-here, bit-other, bit-small}
 
 -- a pair that is not met has bit 0
@@ -39,6 +40,27 @@ module _ (ws : List ℕ) (x y b : ℕ) where
       let g : max x y ≡ x = omega arith in
       let s : min x y ≡ y = omega arith in
       rw (e, g, s) refl
+
+-- whether the pair is to be compared: as found, and what it says if it is
+module _ (m : ℕ → ℕ → Bool) (x y : ℕ) where
+  pub settled-same : x ≡ y → true ≡ settledIn m x y
+  unfolding settledIn
+  settled-same e = rw (eq-eqb x y e)
+
+  pub settled-met : (b : Bool) → b ≡ isMet m x y → (x ≡ y → ⊥) → b ≡ settledIn m x y
+  unfolding settledIn
+  settled-met b e n = rw (ne-eqb x y n) e
+
+  pub not-settled : (b : Bool) → b ≡ settledIn m x y → not b ≡ true → settledIn m x y ≡ false
+  not-settled b e t = sym e ∙ not-true b t
+
+  module _ (f : settledIn m x y ≡ false) where
+    pub two-unknowns : x ≡ y → ⊥
+    two-unknowns e = not-both (settledIn m x y) (sym (settled-same e)) f
+
+    pub not-met : isMet m x y ≡ false
+    unfolding settledIn
+    not-met = rw (ne-eqb x y two-unknowns) at f
 
 -- bit q of word p set, in a word w
 module _ (ws : List ℕ) (p q w : ℕ) (new : metOf ws p q ≡ false) (e : w ≡ getD ws p 0 + 2 ^ q) (l : p < length ws) where

@@ -6,6 +6,7 @@ use Prim.Native.Nat.{ℕ, _-_, _≤_, _<_}
 use native.Mathlib.Omega.{arith}
 use borrow.Author.Tests.{not-false}
 use lib.ListN.{length}
+use Rattle.paper.specs.Sizes.{mostUnknowns}
 use Rattle.layout.specs.Offsets.{unknownsAt, recordsAt, runBytes}
 use Rattle.layout.specs.Fields.{byteAt, partCountOf, partOf}
 use Rattle.layout.specs.Given.{Reads, byteLimit}
@@ -40,3 +41,6 @@ part-unknown d v i n j p w h r =
     let u = w .run .unknowns in
     let c = w .count in
     omega (arith, r .same, part-low d (w .run .long) (tests d v (w .run)) i (w .here) j (omega arith))
+
+pub part-few : (d : List ℕ) (v i n j p : ℕ) → OneRecord d v i n → j < n → Reads (partOf d i j) byteLimit p → p < mostUnknowns
+part-few d v i n j p w h r = omega (arith, w .run .few-unknowns, part-unknown d v i n j p w h r)

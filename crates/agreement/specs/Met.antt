@@ -1,10 +1,11 @@
 -- A table of met pairs in 32 words of 32 bits: the greater unknown's word, the smaller one's bit.
-use mathlib.Core.Path.{_≡_}
-use mathlib.Core.Bool.{Bool}
+use mathlib.Core.Bool.{Bool, true}
 use mathlib.Core.List.{List}
-use Prim.Native.Nat.{ℕ, _/_, _%_, _^_, _<_}
+use Prim.Native.Nat.{ℕ, _/_, _%_, _^_}
 use lib.Dec.{eqb}
 use lib.ListN.{getD}
+use Rattle.base.specs.Choice.{pick}
+use Rattle.paper.specs.Ends.{isMet}
 
 -- bit q of n
 unfoldable pub bitOf : ℕ → ℕ → ℕ
@@ -15,7 +16,6 @@ unfoldable pub metOf : List ℕ → ℕ → ℕ → Bool
 unfolding bitOf
 metOf ws p q = eqb (bitOf (getD ws p 0) q) 1
 
--- r is 2 to the q, and not 0
-pub record Power (q r : ℕ) : Type 0 where
-  pub is : r ≡ 2 ^ q
-  pub some : 0 < r
+-- whether x and y are not to be compared: they are one unknown, or a pair in the table
+unfoldable pub settledIn : (ℕ → ℕ → Bool) → ℕ → ℕ → Bool
+settledIn m x y = pick (eqb x y) true (isMet m x y)

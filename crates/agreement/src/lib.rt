@@ -7,34 +7,29 @@ pub use ends::end_of;
 use ends::same_head;
 pub use met::MOST_UNKNOWNS;
 use met::Met;
-use met::is_met;
 use met::meet;
+use met::settled;
 ghost use mathlib.Core.Path.{_≡_};
+ghost use mathlib.Core.Bool.{false};
 ghost use Prim.Native.Nat.{_<_};
 ghost use Rattle.base.specs.Lists.{listFrom};
 ghost use Rattle.paper.specs.Ends.{Unknowns, Parts, agree};
 ghost use Rattle.layout.specs.Fields.{partOf};
 ghost use Rattle.agreement.specs.Given.{SoundRun, OneRecord};
 ghost use Rattle.agreement.specs.Ends.{endsOf};
-ghost use Rattle.agreement.specs.Met.{metOf};
+ghost use Rattle.agreement.specs.Met.{metOf, settledIn};
 
 // The answer, and the table after.
 struct Agreed {
-    same: bool,
     met: Met,
+    same: bool,
 }
 
-// Whether x and y agree: one unknown, or a pair met before, is not compared; else their ends are.
+// Whether x and y agree, two unknowns that were not met before: they are now, and their ends are compared.
 fn agree_unknowns(run: &[u8], v: usize, x: usize, y: usize, met: Met) -> Agreed
-    requires { ⌜ SoundRun (now run) v × (x < v) × (y < v) ⌝ }
+    requires { ⌜ SoundRun (now run) v × (x < v) × (y < v) × (settledIn (metOf (met .words)) x y ≡ false) ⌝ }
     ensures { λ r. ⌜ Unknowns (endsOf (now (run .entry))) x y (metOf (met .words)) (r .same) (metOf (r .met .words)) ⌝ }
 {
-    if x == y {
-        return Agreed { same: true, met };
-    }
-    if is_met(met, x, y) {
-        return Agreed { same: true, met };
-    }
     let next = meet(met, x, y);
     let a = end_of(run, v, x);
     let b = end_of(run, v, y);
@@ -60,7 +55,7 @@ fn agree_unknowns(run: &[u8], v: usize, x: usize, y: usize, met: Met) -> Agreed
     agree_parts(run, v, a - v, b - v, n, next)
 }
 
-// Whether the parts of records i and k, n each, agree.
+// Whether the parts of records i and k, n each, agree. The table is not copied for a pair that is not to be compared.
 fn agree_parts(run: &[u8], v: usize, i: usize, k: usize, n: usize, met: Met) -> Agreed
     requires { ⌜ OneRecord (now run) v i n × OneRecord (now run) v k n ⌝ }
     ensures { λ r. ⌜ Parts (endsOf (now (run .entry))) (listFrom (partOf (now (run .entry)) i) n 0) (listFrom (partOf (now (run .entry)) k) n 0) (metOf (met .words)) (r .same) (metOf (r .met .words)) ⌝ }
@@ -70,14 +65,16 @@ fn agree_parts(run: &[u8], v: usize, i: usize, k: usize, n: usize, met: Met) -> 
     while j < n {
         let p = layout::part_at(run, i, j);
         let q = layout::part_at(run, k, j);
-        let answer = agree_unknowns(run, v, p, q, next);
-        let same = answer.same;
-        next = answer.met;
-        if !same {
-            return Agreed {
-                same: false,
-                met: next,
-            };
+        if !settled(&next.words, p, q) {
+            let answer = agree_unknowns(run, v, p, q, next);
+            let same = answer.same;
+            next = answer.met;
+            if !same {
+                return Agreed {
+                    same: false,
+                    met: next,
+                };
+            }
         }
         j += 1;
     }
@@ -95,6 +92,9 @@ pub fn same_item(run: &[u8], v: usize, x: usize, y: usize) -> bool
     let none = Met {
         words: [0u32; MOST_UNKNOWNS],
     };
+    if settled(&none.words, x, y) {
+        return true;
+    }
     let answer = agree_unknowns(run, v, x, y, none);
     answer.same
 }

@@ -1,11 +1,11 @@
-// The table of met pairs: small enough to go by value, its bits reached by quotient and remainder of powers of two.
+// The table of met pairs: small enough to go by value, its bits reached by shifts; it is lent to what only reads it.
 ghost use mathlib.Core.Path.{_≡_};
 ghost use mathlib.Core.Bool.{true, false};
 ghost use Prim.Native.Nat.{_+_, _^_, _<_};
 ghost use Rattle.base.specs.Choice.{upd};
 ghost use Rattle.paper.specs.Ends.{isMet, meeting};
 ghost use Rattle.paper.specs.Sizes.{mostUnknowns};
-ghost use Rattle.agreement.specs.Met.{Power, bitOf, metOf};
+ghost use Rattle.agreement.specs.Met.{bitOf, metOf, settledIn};
 
 // At most so many unknowns, and as many bits in a word.
 pub const MOST_UNKNOWNS: usize = 32;
@@ -15,26 +15,12 @@ pub struct Met {
     pub words: [u32; MOST_UNKNOWNS],
 }
 
-// 2 to the q.
-fn power(q: usize) -> u32
-    requires { ⌜ q < mostUnknowns ⌝ }
-    ensures { λ r. ⌜ Power q r ⌝ }
-{
-    let mut n: u32 = 1;
-    let mut i = 0;
-    while i < q {
-        n = 2 * n;
-        i += 1;
-    }
-    n
-}
-
 // Bit q of a word.
 fn bit(word: u32, q: usize) -> u32
     requires { ⌜ q < mostUnknowns ⌝ }
     ensures { λ r. ⌜ r ≡ bitOf word q ⌝ }
 {
-    word / power(q) % 2
+    (word >> q) % 2
 }
 
 // A word with its bit q, which is 0, set.
@@ -42,18 +28,29 @@ fn set_bit(word: u32, q: usize) -> u32
     requires { ⌜ (q < mostUnknowns) × (bitOf word q ≡ 0) ⌝ }
     ensures { λ r. ⌜ r ≡ word + 2 ^ q ⌝ }
 {
-    word + power(q)
+    word + (1u32 << q)
 }
 
 // Whether the pair x, y is in the table, either way round.
-pub fn is_met(met: Met, x: usize, y: usize) -> bool
+fn is_met(words: &[u32; MOST_UNKNOWNS], x: usize, y: usize) -> bool
     requires { ⌜ (x < mostUnknowns) × (y < mostUnknowns) ⌝ }
-    ensures { λ b. ⌜ b ≡ isMet (metOf (met .words)) x y ⌝ }
+    ensures { λ b. ⌜ b ≡ isMet (metOf (now (words .entry))) x y ⌝ }
 {
     if x < y {
-        return bit(met.words[y], x) == 1;
+        return bit(words[y], x) == 1;
     }
-    bit(met.words[x], y) == 1
+    bit(words[x], y) == 1
+}
+
+// Whether x and y are not to be compared: they are one unknown, or a pair in the table.
+pub fn settled(words: &[u32; MOST_UNKNOWNS], x: usize, y: usize) -> bool
+    requires { ⌜ (x < mostUnknowns) × (y < mostUnknowns) ⌝ }
+    ensures { λ b. ⌜ b ≡ settledIn (metOf (now (words .entry))) x y ⌝ }
+{
+    if x == y {
+        return true;
+    }
+    is_met(words, x, y)
 }
 
 // The table with bit q of word p, which is 0, set.

@@ -120,10 +120,6 @@ module _ (d : List ℕ) (v i n : ℕ) (w : OneRecord d v i n) where
       zero-plus : (k : ℕ) → 0 + k ≡ k
       zero-plus k = omega arith
 
--- a part has its lowest same item among those of all unknowns
-pub part-in-table : (d : List ℕ) (v i n j p : ℕ) → OneRecord d v i n → j < n → Reads (partOf d i j) byteLimit p → p < mostUnknowns
-part-in-table d v i n j p w h r = omega (arith, w .run .few-unknowns, part-unknown d v i n j p w h r)
-
 -- j of them put
 pub no-lows : (d : List ℕ) (v i at : ℕ) (m : List ℕ) → m ≡ put at (take 0 (lowsOf d v i)) m
 no-lows d v i at m = push-none at 0 m (lowsOf d v i)

@@ -1,5 +1,6 @@
 -- The two functions meet their contracts: one law for each way out. They end because pairs not yet met fall: from unknowns to
 -- parts a pair is met, and from parts to unknowns none is lost.
+use mathlib.Core.Logic.{⊎-elim}
 use borrow.Author.Needs.{needs}
 use Prim.Native.Nat.{ℕ, _+_, _-_, _*_, _≤_, _<_}
 use native.Mathlib.Omega.{arith}
@@ -9,8 +10,9 @@ use Rattle.paper.proofs.MetPairsEnd.{unmet}
 use Rattle.layout.specs.Fields.{partOf}
 use Rattle.agreement.specs.Ends.{endsOf}
 use Rattle.agreement.specs.Met.{metOf}
-use Rattle.agreement.proofs.Ranges.{ended-record, part-unknown}
-use Rattle.agreement.proofs.AgreementLaws.{same-unknown, met-before, left-ends-open, right-ends-open, heads-apart, same-counted, parts-compared, new-pair-falls, Compared, none-compared, part-differs, one-more-compared, all-compared}
+use Rattle.agreement.proofs.Ranges.{ended-record, part-unknown, part-few}
+use Rattle.agreement.proofs.MetTable.{not-settled, not-met}
+use Rattle.agreement.proofs.AgreementLaws.{left-ends-open, right-ends-open, heads-apart, same-counted, parts-compared, new-pair-falls, Compared, none-compared, settled-compared, part-differs, one-more-compared, all-compared}
 use Rattle.agreement.proofs.agree_parts.Reads as agree-parts
 use Rattle.agreement.proofs.agree_parts.Kinds as agree-parts-kinds
 use Rattle.agreement.proofs.+agree_parts+agree_unknowns.Lts-agree_parts as agree-parts-lts
@@ -21,8 +23,8 @@ use Rattle.layout.proofs.part_at.Reads as part-at-reads
 use Rattle.layout.proofs.part_count.Reads as part-count-reads
 use Rattle.agreement.proofs.ends.end_of.Reads as end-of-reads
 use Rattle.agreement.proofs.ends.same_head.Reads as same-head-reads
-use Rattle.agreement.proofs.met.is_met.Reads as is-met-reads
 use Rattle.agreement.proofs.met.meet.Reads as meet-reads
+use Rattle.agreement.proofs.met.settled.Reads as settled-reads
 use Rattle.agreement.proofs.+agree_parts+agree_unknowns.{statement}
 use Rattle.agreement.proofs.+agree_parts+agree_unknowns.Tie.{close}
 
@@ -49,12 +51,10 @@ agree-unknowns-below t =
     and 1 agree-unknowns-kinds.ps (falls 1 agree-unknowns-kinds.ps _<_ μ-agree-unknowns t) agree-unknowns.Pre
 
 abbrev parts-called : ℕ → agree-parts-lts.Claims
-parts-called t = (part-at-reads.Asked, part-at-reads.Learnt, agree-unknowns-below t, agree-unknowns.Post)
+parts-called t = (part-at-reads.Asked, part-at-reads.Learnt, settled-reads.Asked, settled-reads.Learnt, agree-unknowns-below t, agree-unknowns.Post)
 
 abbrev unknowns-called : ℕ → agree-unknowns-lts.Claims
 unknowns-called t = (
-  is-met-reads.Asked,
-  is-met-reads.Learnt,
   meet-reads.Asked,
   meet-reads.Learnt,
   end-of-reads.Asked,
@@ -84,8 +84,11 @@ module _ (t : ℕ) where
   parts-part-at-requires-2 : agree-parts-lts.Need-part-at-requires-2 (parts-called t) (agree-parts-at t) agree-parts.Post Inv-loop μ-loop
   parts-part-at-requires-2 c κs = search needs
 
+  parts-settled-requires : agree-parts-lts.Need-settled-requires (parts-called t) (agree-parts-at t) agree-parts.Post Inv-loop μ-loop
+  parts-settled-requires c κs = (search part-few, search part-few)
+
   parts-agree-unknowns-requires : agree-parts-lts.Need-agree-unknowns-requires (parts-called t) (agree-parts-at t) agree-parts.Post Inv-loop μ-loop
-  parts-agree-unknowns-requires c κs = (omega arith, (search needs, search part-unknown, search part-unknown))
+  parts-agree-unknowns-requires c κs = (omega arith, (search needs, search part-unknown, search part-unknown, not-settled _ _ _ _ (c .before .settled .ensures) (c .if1 .taken)))
 
   parts-returns : agree-parts-lts.Need-returns (parts-called t) (agree-parts-at t) agree-parts.Post Inv-loop μ-loop
   parts-returns c = search part-differs
@@ -97,22 +100,13 @@ module _ (t : ℕ) where
   parts-loop-less c = search needs
 
   parts-loop-again : agree-parts-lts.Need-loop-again (parts-called t) (agree-parts-at t) agree-parts.Post Inv-loop μ-loop
-  parts-loop-again c = (search needs, search one-more-compared)
+  parts-loop-again c = (search needs, ⊎-elim (λ w. rw (w .4) (search one-more-compared)) (λ w. rw (w .1) (search settled-compared)) (c .if1 .came))
 
   parts-returns-2 : agree-parts-lts.Need-returns-2 (parts-called t) (agree-parts-at t) agree-parts.Post Inv-loop μ-loop
   parts-returns-2 c = search all-compared
 
-  unknowns-returns : agree-unknowns-lts.Need-returns (unknowns-called t) (agree-unknowns-at t) agree-unknowns.Post
-  unknowns-returns c = search same-unknown
-
-  unknowns-is-met-requires : agree-unknowns-lts.Need-is-met-requires (unknowns-called t) (agree-unknowns-at t) agree-unknowns.Post
-  unknowns-is-met-requires c κs = search needs
-
-  unknowns-returns-2 : agree-unknowns-lts.Need-returns-2 (unknowns-called t) (agree-unknowns-at t) agree-unknowns.Post
-  unknowns-returns-2 c = search met-before
-
   unknowns-meet-requires : agree-unknowns-lts.Need-meet-requires (unknowns-called t) (agree-unknowns-at t) agree-unknowns.Post
-  unknowns-meet-requires c κs = (search needs, search needs, (cc))
+  unknowns-meet-requires c κs = (search needs, search needs, search not-met)
 
   unknowns-end-of-requires : agree-unknowns-lts.Need-end-of-requires (unknowns-called t) (agree-unknowns-at t) agree-unknowns.Post
   unknowns-end-of-requires c κs = search needs
@@ -120,38 +114,38 @@ module _ (t : ℕ) where
   unknowns-end-of-requires-2 : agree-unknowns-lts.Need-end-of-requires-2 (unknowns-called t) (agree-unknowns-at t) agree-unknowns.Post
   unknowns-end-of-requires-2 c κs = search needs
 
-  unknowns-returns-3 : agree-unknowns-lts.Need-returns-3 (unknowns-called t) (agree-unknowns-at t) agree-unknowns.Post
-  unknowns-returns-3 c = search left-ends-open
+  unknowns-returns : agree-unknowns-lts.Need-returns (unknowns-called t) (agree-unknowns-at t) agree-unknowns.Post
+  unknowns-returns c = search left-ends-open
 
-  unknowns-returns-4 : agree-unknowns-lts.Need-returns-4 (unknowns-called t) (agree-unknowns-at t) agree-unknowns.Post
-  unknowns-returns-4 c = search right-ends-open
+  unknowns-returns-2 : agree-unknowns-lts.Need-returns-2 (unknowns-called t) (agree-unknowns-at t) agree-unknowns.Post
+  unknowns-returns-2 c = search right-ends-open
 
   unknowns-same-head-requires : agree-unknowns-lts.Need-same-head-requires (unknowns-called t) (agree-unknowns-at t) agree-unknowns.Post
   unknowns-same-head-requires c κs = search needs
 
-  unknowns-returns-5 : agree-unknowns-lts.Need-returns-5 (unknowns-called t) (agree-unknowns-at t) agree-unknowns.Post
-  unknowns-returns-5 c = search heads-apart
+  unknowns-returns-3 : agree-unknowns-lts.Need-returns-3 (unknowns-called t) (agree-unknowns-at t) agree-unknowns.Post
+  unknowns-returns-3 c = search heads-apart
 
   unknowns-part-count-requires : agree-unknowns-lts.Need-part-count-requires (unknowns-called t) (agree-unknowns-at t) agree-unknowns.Post
   unknowns-part-count-requires c κs = search needs
 
   unknowns-agree-parts-requires : agree-unknowns-lts.Need-agree-parts-requires (unknowns-called t) (agree-unknowns-at t) agree-unknowns.Post
   unknowns-agree-parts-requires c κs =
-      let g = c .before .before .before .before .before .before .before .before .before .before .before .before .pre .1 .0 in
+      let g = c .before .before .before .before .before .before .before .before .before .pre .1 .0 in
       let n = c .part-count .ensures in
-      let s = same-counted _ _ _ _ _ (c .before .before .same-head .ensures) (c .before .if5 .left) n in (
+      let s = same-counted _ _ _ _ _ (c .before .before .same-head .ensures) (c .before .if3 .left) n in (
         search new-pair-falls,
         (
-          ended-record _ _ _ _ _ g (c .before .before .before .before .before .before .end-of .ensures) (c .before .before .before .before .if3 .left) (n .same),
-          ended-record _ _ _ _ _ g (c .before .before .before .before .before .end-of2 .ensures) (c .before .before .before .if4 .left) s,
+          ended-record _ _ _ _ _ g (c .before .before .before .before .before .before .end-of .ensures) (c .before .before .before .before .if1 .left) (n .same),
+          ended-record _ _ _ _ _ g (c .before .before .before .before .before .end-of2 .ensures) (c .before .before .before .if2 .left) s,
         ),
       )
 
-  unknowns-returns-6 : agree-unknowns-lts.Need-returns-6 (unknowns-called t) (agree-unknowns-at t) agree-unknowns.Post
-  unknowns-returns-6 c = search parts-compared
+  unknowns-returns-4 : agree-unknowns-lts.Need-returns-4 (unknowns-called t) (agree-unknowns-at t) agree-unknowns.Post
+  unknowns-returns-4 c = search parts-compared
 
 pub +agree-parts+agree-unknowns-spec : {M : Type 1} → statement M
 +agree-parts+agree-unknowns-spec =
     close μ-agree-parts μ-agree-unknowns
-    (λ t. agree-parts-lts.spec (parts-called t) (agree-parts-at t) agree-parts.Post Inv-loop μ-loop (parts-loop-holds t) (parts-part-at-requires t) (parts-part-at-requires-2 t) (parts-agree-unknowns-requires t) (parts-returns t) (parts-add-j t) (parts-loop-less t) (parts-loop-again t) (parts-returns-2 t))
-    λ t. agree-unknowns-lts.spec (unknowns-called t) (agree-unknowns-at t) agree-unknowns.Post (unknowns-returns t) (unknowns-is-met-requires t) (unknowns-returns-2 t) (unknowns-meet-requires t) (unknowns-end-of-requires t) (unknowns-end-of-requires-2 t) (unknowns-returns-3 t) (unknowns-returns-4 t) (unknowns-same-head-requires t) (unknowns-returns-5 t) (unknowns-part-count-requires t) (unknowns-agree-parts-requires t) (unknowns-returns-6 t)
+    (λ t. agree-parts-lts.spec (parts-called t) (agree-parts-at t) agree-parts.Post Inv-loop μ-loop (parts-loop-holds t) (parts-part-at-requires t) (parts-part-at-requires-2 t) (parts-settled-requires t) (parts-agree-unknowns-requires t) (parts-returns t) (parts-add-j t) (parts-loop-less t) (parts-loop-again t) (parts-returns-2 t))
+    λ t. agree-unknowns-lts.spec (unknowns-called t) (agree-unknowns-at t) agree-unknowns.Post (unknowns-meet-requires t) (unknowns-end-of-requires t) (unknowns-end-of-requires-2 t) (unknowns-returns t) (unknowns-returns-2 t) (unknowns-same-head-requires t) (unknowns-returns-3 t) (unknowns-part-count-requires t) (unknowns-agree-parts-requires t) (unknowns-returns-4 t)

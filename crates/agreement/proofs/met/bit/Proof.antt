@@ -1,17 +1,19 @@
--- `bit` meets its contract: a quotient and a remainder.
+-- `bit` meets its contract: a shift is a quotient.
+use mathlib.Core.Path.{refl}
 use borrow.Author.Needs.{needs}
-use Rattle.agreement.proofs.Bits.{bit-read}
+use Rattle.agreement.specs.Met.{bitOf}
 use Rattle.agreement.proofs.met.bit.Statement.{statement}
 use Rattle.agreement.proofs.met.bit.Tie as tie
 
-power-requires : tie.Need-power-requires
-power-requires c κs = search needs
+cast-result : tie.Need-cast-result
+cast-result c = search needs
 
-div-result : tie.Need-div-result
-div-result c = search needs
+shr-result : tie.Need-shr-result
+shr-result c = search needs
 
 returns : tie.Need-returns
-returns c = search bit-read
+unfolding bitOf
+returns c = refl
 
 pub bit-spec : {M : Type 1} → statement M
-bit-spec = tie.close (tie.spec power-requires div-result returns)
+bit-spec = tie.close (tie.spec cast-result shr-result returns)

@@ -6,7 +6,8 @@ use borrow.Author.Needs.{needs}
 use lib.ListN.{length, take, length-set}
 use Rattle.base.specs.Regions.{put}
 use Rattle.maps.specs.Rows.{lowsOf}
-use Rattle.maps.proofs.Lowest.{part-in-table, no-lows, lows-more, lows-all}
+use Rattle.agreement.proofs.Ranges.{part-few}
+use Rattle.maps.proofs.Lowest.{no-lows, lows-more, lows-all}
 use Rattle.maps.proofs.rows.write_lows.Statement.{statement}
 use Rattle.maps.proofs.rows.write_lows.Tie as tie
 
@@ -23,7 +24,7 @@ part-at-requires : tie.Need-part-at-requires Inv-loop μ-loop
 part-at-requires c κs = search needs
 
 element-copy-out-map : tie.Need-element-copy-out-map Inv-loop μ-loop
-element-copy-out-map c = search part-in-table
+element-copy-out-map c = search part-few
 
 add-map : tie.Need-add-map Inv-loop μ-loop
 add-map c = search needs
