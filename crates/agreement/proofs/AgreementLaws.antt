@@ -8,7 +8,7 @@ use native.Mathlib.Numerals.{add-one}
 use native.Mathlib.Omega.{arith}
 use borrow.Author.Tests.{not-true, not-false, ne-eqb, eqb-true}
 use lib.Dec.{eqb}
-use lib.ListN.{replicate}
+use lib.ListN.{getD, replicate}
 use Rattle.base.specs.Choice.{pick}
 use Rattle.base.specs.Lists.{listFrom}
 use Rattle.base.proofs.Tests.{snd-true}
@@ -25,7 +25,7 @@ use Rattle.layout.specs.Given.{Reads, byteLimit}
 use Rattle.layout.proofs.SoundViews.{Bytes, table-ok}
 use Rattle.layout.proofs.ViewedFields.{head-byte}
 use Rattle.agreement.specs.Given.{SoundRun}
-use Rattle.agreement.specs.Ends.{endsOf, EndsAt}
+use Rattle.agreement.specs.Ends.{endsOf, EndsAt, AllEnd}
 use Rattle.agreement.specs.Met.{metOf, settledIn}
 use Rattle.agreement.proofs.Ranges.{tests}
 use Rattle.agreement.proofs.Chains.{open-end, record-end}
@@ -54,8 +54,20 @@ pub same-counted : (d : List ℕ) (i k p : ℕ) (c : Bool) → c ≡ sameHead (r
 same-counted d i k p c h t r = r .same ∙ same-count d i k c h t
 
 -- a pair that is met for the first time, with the ends of both
-module _ (d : List ℕ) (v x y a b : ℕ) (m m′ : Table) (g : SoundRun d v) (f : settledIn m x y ≡ false)
-    (next : m′ ≡ meeting m x y) (ex : EndsAt d x a) (ey : EndsAt d y b) where
+module _ (d : List ℕ) (v x y : ℕ) (es : List ℕ) (m m′ : Table) (g : SoundRun d v) (w : AllEnd d v es) (hx : x < v) (hy : y < v)
+    (f : settledIn m x y ≡ false) (next : m′ ≡ meeting m x y) where
+  abbrev a : ℕ
+  a = getD es x 0
+
+  abbrev b : ℕ
+  b = getD es y 0
+
+  ex : EndsAt d x a
+  ex = w .at x hx
+
+  ey : EndsAt d y b
+  ey = w .at y hy
+
   n : x ≡ y → ⊥
   n = two-unknowns m x y f
 

@@ -1,14 +1,19 @@
 -- What following a mark gives: an unknown without one is its own end, a record's mark ends the chain, and any other falls.
 use mathlib.Core.Path.{_≡_, sym, subst, ap, _∙_}
+use mathlib.Core.Logic.{⊎-elim}
 use mathlib.Core.Bool.{Bool, false}
 use mathlib.Core.List.{List}
 use mathlib.Core.Option.{none, some}
 use Prim.Native.Nat.{ℕ, _+_, _-_, _≤_, _<_}
+use native.Mathlib.Numerals.{add-one}
 use native.Mathlib.Omega.{arith}
 use borrow.Author.Tests.{lt-ltb, le-ltb, eq-eqb, ne-eqb}
 use lib.Dec.{eqb}
+use lib.ListN.{getD, set, replicate, length-set, length-replicate}
+use lib.Seq.{getD-set-same, getD-set-other}
 use Rattle.base.specs.Choice.{pick}
-use Rattle.paper.specs.Sizes.{numberLimit}
+use Rattle.base.proofs.Tests.{last-or}
+use Rattle.paper.specs.Sizes.{mostUnknowns, numberLimit}
 use Rattle.paper.specs.Tables.{sameHead}
 use Rattle.paper.specs.Runs.{Lesser, OwnerOk}
 use Rattle.paper.specs.Ends.{atOpen, atRecord}
@@ -20,7 +25,7 @@ use Rattle.layout.specs.Given.{Reads, byteLimit}
 use Rattle.layout.proofs.SoundViews.{entries-are, owner-ok}
 use Rattle.layout.proofs.ViewedFields.{owner-byte, record-byte, head-byte}
 use Rattle.agreement.specs.Given.{SoundRun}
-use Rattle.agreement.specs.Ends.{endAt, EndsAt}
+use Rattle.agreement.specs.Ends.{endAt, EndsAt, AllEnd}
 use Rattle.agreement.proofs.Ranges.{tests}
 
 -- an entry as an end
@@ -83,6 +88,29 @@ module _ (d : List ℕ) (v x m : ℕ) (g : SoundRun d v) (hx : x < v) (r : Reads
   mark-falls n l =
       let e = g .unknowns in
       omega (arith, fall x m (owned n), rank-unknown (tableOf d) m (omega arith), rank-unknown (tableOf d) x (omega arith))
+
+-- the ends of all unknowns, one after the other
+pub no-end : (d : List ℕ) → AllEnd d 0 (replicate mostUnknowns 0)
+no-end d = record { long = length-replicate {A = ℕ} mostUnknowns 0; at = λ x h. absurd (let z : ⊥ = omega arith in z) }
+
+pub end-small : (d : List ℕ) (v x a : ℕ) → SoundRun d v → EndsAt d x a → a < byteLimit
+end-small d v x a g e = omega (arith, e .entry, g .few-unknowns, g .unknowns, g .few-records)
+
+pub one-more-end : (d : List ℕ) (v x a : ℕ) (es : List ℕ) → AllEnd d x es → SoundRun d v → x < v → EndsAt d x a → AllEnd d (x + 1) (set es x a)
+one-more-end d v x a es w g h e =
+    record {
+      long = length-set es x a ∙ w .long;
+      at = λ y l. ⊎-elim (λ (k : x ≡ y). here y k) (λ (k : y < x). there y k) (last-or (rw add-one at l));
+    }
+  where
+    here : (y : ℕ) → x ≡ y → EndsAt d y (getD (set es x a) y 0)
+    here y k = subst (λ (z : ℕ). EndsAt d z (getD (set es x a) z 0)) k (rw (getD-set-same es x a 0 (omega (arith, w .long, g .few-unknowns))) e)
+
+    there : (y : ℕ) → y < x → EndsAt d y (getD (set es x a) y 0)
+    there y k = rw (getD-set-other es x y a 0 (λ q. let z : ⊥ = omega arith in z)) (w .at y k)
+
+pub all-end : (d : List ℕ) (v x : ℕ) (es : List ℕ) → AllEnd d x es → x ≤ v → v ≤ x → AllEnd d v es
+all-end d v x es w h k = let e : x ≡ v = omega arith in subst (λ (n : ℕ). AllEnd d n es) e w
 
 -- two records' heads, as read
 module _ (d : List ℕ) (i k s t : ℕ) (hs : Reads (symbolOf d i) numberLimit s) (ht : Reads (symbolOf d k) numberLimit t) where

@@ -2,18 +2,18 @@
 use mathlib.Core.Path.{_≡_, sym, _∙_}
 use mathlib.Core.Bool.{Bool, true, false, not}
 use mathlib.Core.List.{List}
-use Prim.Native.Nat.{ℕ, _-_, _≤_, _<_}
+use Prim.Native.Nat.{ℕ, _-_, _^_, _≤_, _<_}
 use native.Mathlib.Omega.{arith}
 use borrow.Author.Tests.{not-false}
-use lib.ListN.{length}
-use Rattle.paper.specs.Sizes.{mostUnknowns}
+use lib.ListN.{length, getD}
+use Rattle.paper.specs.Sizes.{mostUnknowns, mostRecords}
 use Rattle.layout.specs.Offsets.{unknownsAt, recordsAt, runBytes}
 use Rattle.layout.specs.Fields.{byteAt, partCountOf, partOf}
 use Rattle.layout.specs.Given.{Reads, byteLimit}
 use Rattle.layout.specs.Soundness.{soundBytes}
 use Rattle.layout.proofs.SoundViews.{Tested, tested, in-range, part-count, part-low}
 use Rattle.agreement.specs.Given.{SoundRun, OneRecord}
-use Rattle.agreement.specs.Ends.{EndsAt}
+use Rattle.agreement.specs.Ends.{EndsAt, AllEnd}
 
 -- the check passed
 pub checked-run : (d : List ℕ) (v : ℕ) (b : Bool) → length d ≡ runBytes → b ≡ soundBytes d → not b ≡ false
@@ -34,6 +34,14 @@ counted-record d v i n g h c =
 
 pub ended-record : (d : List ℕ) (v x a n : ℕ) → SoundRun d v → EndsAt d x a → v ≤ a → n ≡ partCountOf d (a - v) → OneRecord d v (a - v) n
 ended-record d v x a n g e h c = counted-record d v (a - v) n g (omega (arith, g .unknowns, e .entry)) c
+
+-- an end looked up
+module _ (d : List ℕ) (v x : ℕ) (es : List ℕ) (g : SoundRun d v) (w : AllEnd d v es) (h : x < v) where
+  pub end-fits : getD es x 0 < 2 ^ 64
+  end-fits = omega (arith, w .at x h .entry, g .few-unknowns, g .unknowns, g .few-records)
+
+  pub few-ended : v ≤ getD es x 0 → getD es x 0 - v < mostRecords
+  few-ended l = omega (arith, w .at x h .entry, g .unknowns, g .few-records)
 
 -- a part is an unknown
 pub part-unknown : (d : List ℕ) (v i n j p : ℕ) → OneRecord d v i n → j < n → Reads (partOf d i j) byteLimit p → p < v

@@ -1,5 +1,5 @@
 -- The map as its rows are drawn: bytes laid at the end of those that are there, a row more, and the whole.
-use mathlib.Core.Path.{_≡_, refl, sym, ap, ap₂, _∙_}
+use mathlib.Core.Path.{_≡_, refl, sym, subst, ap, ap₂, _∙_}
 use mathlib.Core.List.{List, [], _∷_, _++_, append-assoc, append-nil}
 use Prim.Native.Nat.{ℕ, zero, suc, _+_, _-_, _*_, _≤_, _<_}
 use native.Mathlib.Numerals.{add-one}
@@ -22,7 +22,7 @@ use Rattle.agreement.specs.Given.{SoundRun, OneRecord}
 use Rattle.agreement.specs.Ends.{endsOf, EndsAt}
 use Rattle.agreement.proofs.Ranges.{counted-record, ended-record}
 use Rattle.agreement.proofs.Chains.{open-end, record-end}
-use Rattle.maps.specs.Rows.{lowestItems, lowsOf, recordLookOf, rowsOf, laid, Drawn}
+use Rattle.maps.specs.Rows.{unknownsOf, lowestItems, lowsOf, recordLookOf, rowsOf, laid, Drawn}
 use Rattle.maps.proofs.Lowest.{lows-count, looked-up}
 
 drop-replicate : (k n a : ℕ) → drop k (replicate n a) ≡ replicate (n - k) a
@@ -160,6 +160,13 @@ module _ (d : List ℕ) (v i at s n : ℕ) (m m₁ : List ℕ) (g : SoundRun d v
         let p : length (put at (head ++ lowsOf d v i) m) ≡ length m = length-put at (head ++ lowsOf d v i) m (omega arith) in
         ap length (e₂ ∙ ap (put (at + 6) (lowsOf d v i)) head-put ∙ put-then at head (lowsOf d v i) m (omega arith)) ∙ p
 
+-- the run's own number of unknowns
+pub sound-here : (d : List ℕ) (v : ℕ) → SoundRun d v → SoundRun d (unknownsOf d)
+sound-here d v g = subst (SoundRun d) (g .unknowns) g
+
+pub items-here : (d : List ℕ) (v : ℕ) (ls : List ℕ) → SoundRun d v → ls ≡ lowestItems d v → ls ≡ lowestItems d (unknownsOf d)
+items-here d v ls g e = e ∙ ap (lowestItems d) (g .unknowns)
+
 -- a row drawn
 module _ (d : List ℕ) (v x a : ℕ) (m ls : List ℕ) (g : SoundRun d v) (r : ls ≡ lowestItems d v) (h : x < v) (w : Drawn d x m) (e : EndsAt d x a) where
   abbrev low : ℕ
@@ -220,7 +227,7 @@ module _ (d : List ℕ) (v x a : ℕ) (m ls : List ℕ) (g : SoundRun d v) (r : 
         ∙ rw (e .is, record-end d a (omega arith), ← u, lows-count d v (a - v) (partCountOf d (a - v)) ended)
         (ap (λ (k : ℕ). k ∷ (recordLookOf d v (a - v) ++ replicate (mostParts - partCountOf d (a - v)) 0)) (sym low-is))
 
-    module _ (m′ : List ℕ) (e′ : m′ ≡ put (rowBytes * x + 1) (recordLookOf d v (a - v)) (set m (rowBytes * x) (getD ls x 0))) where
+    module _ (m′ : List ℕ) (e′ : m′ ≡ put (rowBytes * x + 1) (recordLookOf d (unknownsOf d) (a - v)) (set m (rowBytes * x) (getD ls x 0))) where
       filled-laid : m′ ≡ laid (rowsOf d x ++ filled)
       unfolding filled
       filled-laid =
@@ -228,6 +235,7 @@ module _ (d : List ℕ) (v x a : ℕ) (m ls : List ℕ) (g : SoundRun d v) (r : 
           let k = ended .few in
           let c = filled-count in
           e′
+          ∙ ap (λ (u : ℕ). put (rowBytes * x + 1) (recordLookOf d u (a - v)) (set m (rowBytes * x) low)) (sym (g .unknowns))
           ∙ ap (put (rowBytes * x + 1) (recordLookOf d v (a - v))) low-put
           ∙ row-put (rowsOf d x) (low ∷ []) (rowBytes * x) 1 (w .rows) refl (recordLookOf d v (a - v)) (omega arith)
 

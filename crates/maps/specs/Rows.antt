@@ -8,10 +8,14 @@ use Rattle.base.specs.Regions.{put}
 use Rattle.paper.specs.Sizes.{mostUnknowns}
 use Rattle.paper.specs.Files.{each}
 use Rattle.paper.specs.Maps.{lowestOf, rowsFrom}
-use Rattle.layout.specs.Offsets.{symbolBytes, rowBytes, mapBytes}
-use Rattle.layout.specs.Fields.{bytesOf, symbolOf, partCountOf, recordOf, tableOf, runOf}
+use Rattle.layout.specs.Offsets.{unknownsAt, symbolBytes, rowBytes, mapBytes}
+use Rattle.layout.specs.Fields.{byteAt, bytesOf, symbolOf, partCountOf, recordOf, tableOf, runOf}
 use Rattle.layout.specs.MapRows.{bytesOfRow}
 use Rattle.agreement.specs.Ends.{endsOf}
+
+-- how many unknowns the run has
+abbrev pub unknownsOf : List ℕ → ℕ
+unknownsOf d = byteAt d unknownsAt
 
 -- the lowest same item of each unknown, and 0 from v on
 unfoldable pub lowestItems : List ℕ → ℕ → List ℕ

@@ -10,7 +10,7 @@ ghost use Rattle.layout.specs.Offsets.{recordsAt, rowBytes, mapBytes};
 ghost use Rattle.layout.specs.Fields.{byteAt, tableOf, runOf};
 ghost use Rattle.layout.specs.MapRows.{mapOf};
 ghost use Rattle.agreement.specs.Given.{SoundRun, OneRecord};
-ghost use Rattle.maps.specs.Rows.{lowestItems, lowsOf, recordLookOf, Drawn};
+ghost use Rattle.maps.specs.Rows.{unknownsOf, lowestItems, lowsOf, recordLookOf, Drawn};
 
 // The kind of a row that is not open.
 const RECORD: u8 = 1;
@@ -24,17 +24,9 @@ const ROW_BYTES: usize = 1 + HEAD_BYTES + 4;
 pub const MAP_BYTES: usize = MOST_UNKNOWNS * ROW_BYTES;
 
 // The lowest same item of each of the n parts of record i, from `at` on.
-fn write_lows(
-    run: &[u8],
-    v: usize,
-    lows: &[u8; MOST_UNKNOWNS],
-    i: usize,
-    n: usize,
-    map: &mut [u8],
-    at: usize,
-)
-    requires { ⌜ OneRecord (now run) v i n × (now lows ≡ lowestItems (now run) v) × (at + n ≤ length (now map)) ⌝ }
-    ensures { λ _. ⌜ now (map .exit) ≡ put at (lowsOf (now (run .entry)) v i) (now (map .entry)) ⌝ }
+fn write_lows(run: &[u8], lows: &[u8; MOST_UNKNOWNS], i: usize, n: usize, map: &mut [u8], at: usize)
+    requires { ⌜ OneRecord (now run) (unknownsOf (now run)) i n × (now lows ≡ lowestItems (now run) (unknownsOf (now run))) × (at + n ≤ length (now map)) ⌝ }
+    ensures { λ _. ⌜ now (map .exit) ≡ put at (lowsOf (now (run .entry)) (unknownsOf (now (run .entry))) i) (now (map .entry)) ⌝ }
 {
     let mut j = 0;
     while j < n {
@@ -45,21 +37,14 @@ fn write_lows(
 }
 
 // The row of record i after its first byte, from `at` on: the kind, the symbol, the part count, the parts.
-fn write_record(
-    run: &[u8],
-    v: usize,
-    lows: &[u8; MOST_UNKNOWNS],
-    i: usize,
-    map: &mut [u8],
-    at: usize,
-)
-    requires { ⌜ SoundRun (now run) v × (now lows ≡ lowestItems (now run) v) × (i < byteAt (now run) recordsAt) × (at + rowBytes ≤ length (now map) + 1) ⌝ }
-    ensures { λ _. ⌜ now (map .exit) ≡ put at (recordLookOf (now (run .entry)) v i) (now (map .entry)) ⌝ }
+fn write_record(run: &[u8], lows: &[u8; MOST_UNKNOWNS], i: usize, map: &mut [u8], at: usize)
+    requires { ⌜ SoundRun (now run) (unknownsOf (now run)) × (now lows ≡ lowestItems (now run) (unknownsOf (now run))) × (i < byteAt (now run) recordsAt) × (at + rowBytes ≤ length (now map) + 1) ⌝ }
+    ensures { λ _. ⌜ now (map .exit) ≡ put at (recordLookOf (now (run .entry)) (unknownsOf (now (run .entry))) i) (now (map .entry)) ⌝ }
 {
     let n = layout::part_count(run, i);
     map[at] = RECORD;
     layout::put_head(map, at + 1, layout::symbol_at(run, i), n as u8);
-    write_lows(run, v, lows, i, n, map, at + HEAD_BYTES);
+    write_lows(run, lows, i, n, map, at + HEAD_BYTES);
 }
 
 // Row x, of a map in which the rows before it are drawn and all else is 0.
@@ -73,7 +58,7 @@ fn write_row(run: &[u8], v: usize, lows: &[u8; MOST_UNKNOWNS], x: usize, map: &m
     if a < v {
         return;
     }
-    write_record(run, v, lows, a - v, map, at + 1);
+    write_record(run, lows, a - v, map, at + 1);
 }
 
 // The whole map: all 0 at first, then row by row.

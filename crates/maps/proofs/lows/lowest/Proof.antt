@@ -11,10 +11,10 @@ use Rattle.maps.proofs.lows.lowest.Statement.{statement}
 use Rattle.maps.proofs.lows.lowest.Tie as tie
 
 abbrev Inv-loop : tie.InvT-loop
-Inv-loop run v x y₀ y = (y ≤ x) × (firstOf (agree (endsOf run) v x) (x - y) y ≡ lowestOf (endsOf run) v x)
+Inv-loop run v ends x y₀ y = (y ≤ x) × (firstOf (agree (endsOf run) v x) (x - y) y ≡ lowestOf (endsOf run) v x)
 
 abbrev μ-loop : tie.MeasureT-loop
-μ-loop run v x y₀ y = x - y
+μ-loop run v ends x y₀ y = x - y
 
 loop-holds : tie.Need-loop-holds Inv-loop μ-loop
 loop-holds c = (search needs, search lowest-from-0)

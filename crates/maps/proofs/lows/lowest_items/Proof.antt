@@ -13,10 +13,13 @@ use Rattle.maps.proofs.lows.lowest_items.Statement.{statement}
 use Rattle.maps.proofs.lows.lowest_items.Tie as tie
 
 abbrev Inv-loop : tie.InvT-loop
-Inv-loop run v lows₀ x₀ lows x = (x ≤ v) × (lows ≡ put 0 (take x (listFrom (lowestOf (endsOf run) v) v 0)) (replicate mostUnknowns 0))
+Inv-loop run v ends lows₀ x₀ lows x = (x ≤ v) × (lows ≡ put 0 (take x (listFrom (lowestOf (endsOf run) v) v 0)) (replicate mostUnknowns 0))
 
 abbrev μ-loop : tie.MeasureT-loop
-μ-loop run v lows₀ x₀ lows x = v - x
+μ-loop run v ends lows₀ x₀ lows x = v - x
+
+ends-of-requires : tie.Need-ends-of-requires Inv-loop μ-loop
+ends-of-requires c κs = search needs
 
 loop-holds : tie.Need-loop-holds Inv-loop μ-loop
 loop-holds c = (search needs, search no-items)
@@ -48,6 +51,7 @@ lowest-items-spec =
     (tie.spec
     Inv-loop
     μ-loop
+    ends-of-requires
     loop-holds
     lowest-requires
     cast-lows

@@ -5,17 +5,17 @@ use native.Mathlib.Omega.{arith}
 use borrow.Author.Needs.{needs}
 use lib.ListN.{length, take, length-set}
 use Rattle.base.specs.Regions.{put}
-use Rattle.maps.specs.Rows.{lowsOf}
+use Rattle.maps.specs.Rows.{unknownsOf, lowsOf}
 use Rattle.agreement.proofs.Ranges.{part-few}
 use Rattle.maps.proofs.Lowest.{no-lows, lows-more, lows-all}
 use Rattle.maps.proofs.rows.write_lows.Statement.{statement}
 use Rattle.maps.proofs.rows.write_lows.Tie as tie
 
 abbrev Inv-loop : tie.InvT-loop
-Inv-loop run v lows i n map₀ at j₀ map j = (j ≤ n) × (length map ≡ length map₀) × (map ≡ put at (take j (lowsOf run v i)) map₀)
+Inv-loop run lows i n map₀ at j₀ map j = (j ≤ n) × (length map ≡ length map₀) × (map ≡ put at (take j (lowsOf run (unknownsOf run) i)) map₀)
 
 abbrev μ-loop : tie.MeasureT-loop
-μ-loop run v lows i n map₀ at j₀ map j = n - j
+μ-loop run lows i n map₀ at j₀ map j = n - j
 
 loop-holds : tie.Need-loop-holds Inv-loop μ-loop
 loop-holds c = (search needs, refl, search no-lows)

@@ -1,7 +1,7 @@
 -- `write_row` meets its contract: an open row is its first byte, and a record's row is that and the record's bytes.
 use native.Mathlib.Omega.{arith}
 use lib.ListN.{length-set}
-use Rattle.maps.proofs.Drawing.{open-drawn, record-drawn, row-length}
+use Rattle.maps.proofs.Drawing.{sound-here, items-here, open-drawn, record-drawn, row-length}
 use borrow.Author.Needs.{needs}
 use Rattle.maps.proofs.rows.write_row.Statement.{statement}
 use Rattle.maps.proofs.rows.write_row.Tie as tie
@@ -28,7 +28,7 @@ add-write-record : tie.Need-add-write-record
 add-write-record c = search needs
 
 write-record-requires : tie.Need-write-record-requires
-write-record-requires c κs = (search needs, search needs, search needs, simp length-set (omega arith))
+write-record-requires c κs = (search sound-here, search items-here, search needs, simp length-set (omega arith))
 
 same-length-2 : tie.Need-same-length-2
 same-length-2 c = search row-length
