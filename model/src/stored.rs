@@ -19,10 +19,7 @@ pub struct Stored {
 pub fn all() -> Vec<Stored> {
     vec![
         sheet("bench_sheet", bench_sheet),
-        sheet("sheet_files", files),
-        sheet("sheet_runs", runs),
-        sheet("sheet_maps", maps),
-        sheet("sheet_prints", prints),
+        sheet("vectors", vectors),
         input("mapper", RING.to_vec()),
         input("mapper_overlong", overlong()),
     ]
@@ -83,6 +80,14 @@ fn bench_sheet(sheet: &mut Sheet) {
     sheet.steps(&program::places(RING).unwrap_or_default());
     sheet.map();
     sheet.print(RING);
+}
+
+/// All else, part by part.
+fn vectors(sheet: &mut Sheet) {
+    files(sheet);
+    runs(sheet);
+    maps(sheet);
+    prints(sheet);
 }
 
 /// Files with one fault each, and the smallest files.

@@ -11,7 +11,7 @@ abbrev pub fileSpace : ℕ
 fileSpace = 837
 
 abbrev pub sheetSpace : ℕ
-sheetSpace = 65536
+sheetSpace = 131072
 
 abbrev pub listSpace : ℕ
 listSpace = 16384

@@ -11,7 +11,7 @@ ghost use mathlib.Core.Path.{_≡_};
 ghost use Rattle.sheets.specs.Spaces.{runSpace, mapSpace, fileSpace, sheetSpace};
 
 // More than the longest sheet has.
-const SHEET_SPACE: usize = 65536;
+const SHEET_SPACE: usize = 131072;
 
 // One number, and a space or the line's end after it.
 fn print_number(n: u64, after: u8) {

@@ -8,10 +8,10 @@ use Rattle.sheets.proofs.make_calls.Statement.{statement}
 use Rattle.sheets.proofs.make_calls.Tie as tie
 
 abbrev Inv-loop : tie.InvT-loop
-Inv-loop sheet run₀ map₀ file₀ at₀ run map file at = (at ≤ 131074) × (length sheet ≤ sheetSpace) × (length run ≡ runSpace) × (length map ≡ mapSpace) × (length file ≡ fileSpace)
+Inv-loop sheet run₀ map₀ file₀ at₀ run map file at = (at ≤ 196610) × (length sheet ≤ sheetSpace) × (length run ≡ runSpace) × (length map ≡ mapSpace) × (length file ≡ fileSpace)
 
 abbrev μ-loop : tie.MeasureT-loop
-μ-loop sheet run₀ map₀ file₀ at₀ run map file at = 131074 - at
+μ-loop sheet run₀ map₀ file₀ at₀ run map file at = 196610 - at
 
 loop-holds : tie.Need-loop-holds Inv-loop μ-loop
 loop-holds c = search needs

@@ -1,4 +1,0 @@
-// Maps, as calls.
-fn main() {
-    sheets::run_sheet();
-}

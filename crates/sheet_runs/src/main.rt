@@ -1,4 +1,0 @@
-// Steps and lists, as calls.
-fn main() {
-    sheets::run_sheet();
-}
