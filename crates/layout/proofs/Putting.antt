@@ -1,13 +1,13 @@
 -- Laws of putting bytes into a buffer one piece after the other: two pieces, and the pieces of a list in turn.
 use Prim.Native.Nat.{ℕ, suc, _+_, _-_, _≤_, _<_}
-use mathlib.Core.Path.{_≡_, refl, sym, ap, ap₂, _∙_}
+use mathlib.Core.Path.{_≡_, refl, sym, ap, _∙_}
 use mathlib.Core.List.{List, [], _++_, append-nil}
 use native.Mathlib.Nat.{sub-zero}
 use native.Mathlib.Omega.{arith}
-use lib.ListN.{length, take, length-append, take-append-drop}
+use lib.ListN.{length, length-append, take-append-drop}
 use Rattle.base.specs.Lists.{listFrom}
-use Rattle.base.specs.Regions.{put, get}
-use Rattle.base.proofs.Regions.{length-put, get-put}
+use Rattle.base.specs.Regions.{put}
+use Rattle.base.proofs.Regions.{length-put}
 use Rattle.paper.specs.Files.{each}
 use Rattle.layout.specs.Puts.{PutFrom}
 use Rattle.layout.proofs.ChangeLaws.{put-then}
@@ -23,13 +23,6 @@ put-nothing at d = rw (append-nil, plus-zero at) (take-append-drop at d)
 -- a piece leaves the buffer's length
 pub put-long : {at : ℕ} {bs b a : List ℕ} {next : ℕ} → PutFrom at bs b a next → at + length bs ≤ length b → length a ≡ length b
 put-long {at} {bs} {b} w h = ap length (w .bytes) ∙ length-put at bs b h
-
--- what was put from the start on stands before the position
-pub put-taken : {bs b a : List ℕ} {next : ℕ} → PutFrom 0 bs b a next → length bs ≤ length b → take next a ≡ bs
-unfolding get
-put-taken {bs} {b} {a} {next} w h =
-    let n : next ≡ length bs = omega (arith, w .past) in
-    ap₂ (λ (k : ℕ) (l : List ℕ). take k l) n (w .bytes) ∙ get-put 0 bs b (omega arith)
 
 -- one piece and then another are both together
 pub then-put : {at : ℕ} {us vs d d1 d2 : List ℕ} {p q : ℕ} → PutFrom at us d d1 p → PutFrom p vs d1 d2 q

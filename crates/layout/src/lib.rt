@@ -1,4 +1,4 @@
-// The run's 59,752 bytes: named readers and writers of each field, and the check that they are sound.
+// The run's 59,752 bytes: named readers and writers of each field. What is sound is defined in specs/, and tested by `soundness`.
 mod changes; // changes.rt: writers of each field
 mod fields; // fields.rt: readers of each field
 mod offsets; // offsets.rt: where each field stands
