@@ -199,20 +199,6 @@ get-same at n d e hd he h =
     ext-getD 0 (get at n e) (get at n d) (b ∙ sym a) λ i l.
     get-at at n e he i (omega arith) ∙ h (at + i) (omega arith) (omega arith) ∙ sym (get-at at n d hd i (omega arith))
 
-module _ (at : ℕ) (vs d : List ℕ) (fits : at + length vs ≤ length d) where
-  pub get-put : get at (length vs) (put at vs d) ≡ vs
-  get-put =
-      let p = length-put at vs d fits in
-      let a = length-get at (length vs) (put at vs d) (omega arith) in
-      ext-getD 0 (get at (length vs) (put at vs d)) vs a λ i l.
-      get-at at (length vs) (put at vs d) (omega arith) i (omega arith) ∙ put-in at vs d fits i (omega arith)
-
-  pub get-put-apart : (b n : ℕ) → b + n ≤ length d → (b + n ≤ at) ⊎ (at + length vs ≤ b) → get b n (put at vs d) ≡ get b n d
-  get-put-apart b n hb w =
-      let p = length-put at vs d fits in
-      get-same b n d (put at vs d) hb (omega arith) λ j h1 h2.
-      ⊎-elim (λ l. put-before at vs d fits j (omega arith)) (λ l. put-after at vs d fits j (omega arith)) w
-
 -- a region got, changed at one place and put back is that place changed
 pub put-set : (at n : ℕ) (d : List ℕ) (x m : ℕ) → at + n ≤ length d → x < n → put at (set (get at n d) x m) d ≡ set d (at + x) m
 put-set at n d x m fits l =

@@ -6,7 +6,6 @@ use Prim.Native.Nat.{ℕ, suc, _<_}
 use native.Mathlib.Nat.{eq-or-lt-of-le}
 use native.Mathlib.Omega.{arith}
 use lib.Dec.{T, eqb, eqb→eq, eqb-refl}
-use Rattle.base.specs.Choice.{pick}
 
 pub fst-T : (a b : Bool) → T (a && b) → T a
 fst-T true b h = tt
@@ -80,10 +79,3 @@ eqb-tr m n k h j = subst (λ (l : ℕ). T (eqb m l)) (eqb→eq n k j) h
 
 pub last-or : {x n : ℕ} → x < suc n → (n ≡ x) ⊎ (x < n)
 last-or {x} {n} l = ⊎-elim (λ (e : suc x ≡ suc n). inl (omega arith)) (λ (l′ : suc x < suc n). inr (omega arith)) (eq-or-lt-of-le l)
-
-module _ {A : Type 0} where
-  pub pick-true : (b : Bool) (x y : A) → b ≡ true → pick b x y ≡ x
-  pick-true b x y e = rw e
-
-  pub pick-false : (b : Bool) (x y : A) → b ≡ false → pick b x y ≡ y
-  pick-false b x y e = rw e

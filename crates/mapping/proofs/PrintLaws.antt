@@ -78,9 +78,6 @@ module _ (s d0 : List ℕ) (long : length d0 ≡ runBytes) (k p : ℕ) (d1 : Lis
       ok : FileOk (loading .file .table) (loading .file .statements)
       ok = file-ok s (loading .file) accepted
 
-      pub loaded-long : length d1 ≡ runBytes
-      loaded-long = ap length (loading .left) ∙ loaded-as (loading .file) ok .shape .long
-
       pub loaded-sound : soundBytes d1 ≡ true
       loaded-sound = ap soundBytes (loading .left) ∙ loaded-bytes-sound (loading .file) ok
 
@@ -93,9 +90,6 @@ module _ (s d0 : List ℕ) (long : length d0 ≡ runBytes) (k p : ℕ) (d1 : Lis
 
         view : Viewed (loading .file) (ends .steps) (drawnBytes (loadedBytes (loading .file)))
         view = viewed s (loading .file) accepted (ends .carried)
-
-        pub drawn-long : length d2 ≡ runBytes
-        drawn-long = ap length drawn-is ∙ view .ready .shaped .long
 
         pub drawn-sound : soundBytes d2 ≡ true
         drawn-sound = ap soundBytes drawn-is ∙ ready-sound (drawnBytes (loadedBytes (loading .file))) (view .ready)

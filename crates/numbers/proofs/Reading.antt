@@ -187,16 +187,7 @@ ranged-next low below k s at n next e =
     let i = number-next s at n next (w .0) in
     (i .0, i .1, w .1, w .2)
 
--- the same facts one by one, with premises as they stand in code
+-- one of them with premises as they stand in code
 module _ (low below k : ℕ) (s : List ℕ) (at n next : ℕ) (x : Num) (e : x ≡ rangedAt low below k s at) (g : x ≡ Got n next) where
-  pub ranged-past : at < next
-  ranged-past = ranged-next low below k s at n next (sym e ∙ g) .0
-
-  pub ranged-inside : next ≤ length s
-  ranged-inside = ranged-next low below k s at n next (sym e ∙ g) .1
-
-  pub ranged-least : low ≤ n
-  ranged-least = ranged-next low below k s at n next (sym e ∙ g) .2
-
   pub ranged-below : n < below
   ranged-below = ranged-next low below k s at n next (sym e ∙ g) .3

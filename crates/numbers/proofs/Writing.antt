@@ -54,10 +54,6 @@ pub bytes-some : (n : ℕ) → 0 < length (numberBytes n)
 unfolding numberBytes
 bytes-some n = count-groups 4 n .0
 
-pub bytes-most : (n : ℕ) → length (numberBytes n) ≤ mostGroups
-unfolding numberBytes
-bytes-most n = count-groups 4 n .1
-
 module _ (at n : ℕ) (d : List ℕ) (fits : at + length (numberBytes n) ≤ length d) where
   pub room-for-one : at < length d
   room-for-one = omega (arith, bytes-some n)
