@@ -231,3 +231,92 @@ put-set at n d x m fits l =
         (put-in at vs d fits′ (i - at) (omega (arith, long)) ∙ inside (i - at) (omega arith) (ℕ-discrete (i - at) x))
     at-index i (inr a) (inr b) =
         put-after at vs d fits′ i (omega (arith, long)) ∙ sym (getD-set-other d (at + x) i m 0 (λ q. let z : ⊥ = omega arith in z))
+
+-- a region that is got and put back is as it was
+pub put-got : (at n : ℕ) (d : List ℕ) → at + n ≤ length d → put at (get at n d) d ≡ d
+put-got at n d fits = ext-getD 0 (put at vs d) d (length-put at vs d fits′) (λ i h. at-index i (lt-or-le i at) (lt-or-le i (at + n)))
+  where
+    vs : List ℕ
+    vs = get at n d
+
+    long : length vs ≡ n
+    long = length-get at n d fits
+
+    fits′ : at + length vs ≤ length d
+    fits′ = omega (arith, long)
+
+    at-index : (i : ℕ) → (i < at) ⊎ (at ≤ i) → (i < at + n) ⊎ (at + n ≤ i) → getD (put at vs d) i 0 ≡ getD d i 0
+    at-index i (inl a) b = put-before at vs d fits′ i a
+    at-index i (inr a) (inl b) =
+        let e : at + (i - at) ≡ i = omega arith in
+        subst (λ (j : ℕ). getD (put at vs d) j 0 ≡ getD d j 0) e
+        (put-in at vs d fits′ (i - at) (omega (arith, long)) ∙ get-at at n d fits (i - at) (omega arith))
+    at-index i (inr a) (inr b) = put-after at vs d fits′ i (omega (arith, long))
+
+-- two regions apart, the first before the second
+module _ (at : ℕ) (vs : List ℕ) (b : ℕ) (d : List ℕ) (apart : at + length vs ≤ b) where
+  pub get-put : (n : ℕ) → b + n ≤ length d → get b n (put at vs d) ≡ get b n d
+  get-put n fits =
+      let l = length-put at vs d (omega arith) in
+      get-same b n d (put at vs d) fits (omega arith) (λ j h k. put-after at vs d (omega arith) j (omega arith))
+
+  pub put-put : (ws : List ℕ) → b + length ws ≤ length d → put at vs (put b ws d) ≡ put b ws (put at vs d)
+  put-put ws fits =
+      ext-getD 0 (put at vs (put b ws d)) (put b ws (put at vs d)) (outer ∙ lb ∙ sym (inner ∙ la))
+      (λ i h. at-index i (lt-or-le i at) (lt-or-le i (at + length vs)) (lt-or-le i b) (lt-or-le i (b + length ws)))
+    where
+      fa : at + length vs ≤ length d
+      fa = omega arith
+
+      la : length (put at vs d) ≡ length d
+      la = length-put at vs d fa
+
+      lb : length (put b ws d) ≡ length d
+      lb = length-put b ws d fits
+
+      fo : at + length vs ≤ length (put b ws d)
+      fo = omega (arith, lb)
+
+      fi : b + length ws ≤ length (put at vs d)
+      fi = omega (arith, la)
+
+      outer : length (put at vs (put b ws d)) ≡ length (put b ws d)
+      outer = length-put at vs (put b ws d) fo
+
+      inner : length (put b ws (put at vs d)) ≡ length (put at vs d)
+      inner = length-put b ws (put at vs d) fi
+
+      P : ℕ → Type 0
+      P i = getD (put at vs (put b ws d)) i 0 ≡ getD (put b ws (put at vs d)) i 0
+
+      in-first : (k : ℕ) → k < length vs → P (at + k)
+      in-first k h = put-in at vs (put b ws d) fo k h ∙ sym (put-before b ws (put at vs d) fi (at + k) (omega arith) ∙ put-in at vs d fa k h)
+
+      in-second : (k : ℕ) → k < length ws → P (b + k)
+      in-second k h = put-after at vs (put b ws d) fo (b + k) (omega arith) ∙ put-in b ws d fits k h ∙ sym (put-in b ws (put at vs d) fi k h)
+
+      at-index : (i : ℕ) → (i < at) ⊎ (at ≤ i) → (i < at + length vs) ⊎ (at + length vs ≤ i) → (i < b) ⊎ (b ≤ i) → (i < b + length ws) ⊎ (b + length ws ≤ i) → P i
+      at-index i (inl p) q r s =
+          put-before at vs (put b ws d) fo i p ∙ put-before b ws d fits i (omega arith) ∙ sym (put-before b ws (put at vs d) fi i (omega arith) ∙ put-before at vs d fa i p)
+      at-index i (inr p) (inl q) r s =
+          let e : at + (i - at) ≡ i = omega arith in
+          subst P e (in-first (i - at) (omega arith))
+      at-index i (inr p) (inr q) (inl r) s =
+          put-after at vs (put b ws d) fo i q ∙ put-before b ws d fits i r ∙ sym (put-before b ws (put at vs d) fi i r ∙ put-after at vs d fa i q)
+      at-index i (inr p) (inr q) (inr r) (inl s) =
+          let e : b + (i - b) ≡ i = omega arith in
+          subst P e (in-second (i - b) (omega arith))
+      at-index i (inr p) (inr q) (inr r) (inr s) =
+          put-after at vs (put b ws d) fo i q ∙ put-after b ws d fits i s ∙ sym (put-after b ws (put at vs d) fi i s ∙ put-after at vs d fa i q)
+
+-- a gap that is closed after the region
+pub put-gone : (at : ℕ) (vs : List ℕ) (w b e : ℕ) (d : List ℕ) → at + length vs ≤ b → b + w ≤ e → e ≤ length d
+    → put at vs (gone w b e d) ≡ gone w b e (put at vs d)
+unfolding gone shifted
+put-gone at vs w b e d apart low high =
+    let m : List ℕ = get (b + w) (e - w - b) d in
+    let l : length (get (b + w) (e - w - b) d) ≡ e - w - b = length-get (b + w) (e - w - b) d (omega arith) in
+    let x : length (put b m d) ≡ length d = length-put b m d (omega (arith, l)) in
+    let z : length {A = ℕ} (replicate w 0) ≡ w = length-replicate {A = ℕ} w 0 in
+    put-put at vs (e - w) (put b m d) (omega arith) (replicate w 0) (omega (arith, z, x))
+    ∙ ap (put (e - w) (replicate w 0)) (put-put at vs b d apart m (omega (arith, l)) ∙ ap (λ (n : List ℕ). put b n (put at vs d)) (sym (get-put at vs (b + w) d (omega arith) (e - w - b) (omega arith))))

@@ -36,20 +36,20 @@ module _ (v : ℕ) (d : List ℕ) (c x u r : ℕ) where
   met-record h = rw (le-ltb u v h)
 
 -- by the mark m of x
-module _ (v : ℕ) (d : List ℕ) (c x u : ℕ) (marks : List ℕ) (e : marks ≡ storeOf c d) where
-  pub mark-nothing : getD marks x 0 ≡ 255 → Initiate ≡ choiceByMark v d c x u (getD (storeOf c d) x 0)
-  mark-nothing h = rw (← e, h)
+module _ (v : ℕ) (d : List ℕ) (c x u m : ℕ) where
+  pub mark-nothing : m ≡ 255 → Initiate ≡ choiceByMark v d c x u m
+  mark-nothing h = rw h
 
-  module _ (h : getD marks x 0 ≡ 255 → ⊥) where
-    pub mark-initiated : getD marks x 0 ≡ 254 → Waits ≡ choiceByMark v d c x u (getD (storeOf c d) x 0)
-    mark-initiated k = rw (← e, k)
+  module _ (h : m ≡ 255 → ⊥) where
+    pub mark-initiated : m ≡ 254 → Waits ≡ choiceByMark v d c x u m
+    mark-initiated k = rw k
 
-    module _ (k : getD marks x 0 ≡ 254 → ⊥) (b : Bool) (m : b ≡ (ltb u v && eqb (byteAt d (memoFrom c x u)) 1)) where
-      pub mark-met : b ≡ true → Memo ≡ choiceByMark v d c x u (getD (storeOf c d) x 0)
-      mark-met t = rw (← e, ne-eqb _ _ h, ne-eqb _ _ k, ← m, t)
+    module _ (k : m ≡ 254 → ⊥) (b : Bool) (e : b ≡ (ltb u v && eqb (byteAt d (memoFrom c x u)) 1)) where
+      pub mark-met : b ≡ true → Memo ≡ choiceByMark v d c x u m
+      mark-met t = rw (ne-eqb _ _ h, ne-eqb _ _ k, ← e, t)
 
-      pub mark-entry : b ≡ false → Dereference (getD marks x 0) ≡ choiceByMark v d c x u (getD (storeOf c d) x 0)
-      mark-entry t = rw (← e, ne-eqb _ _ h, ne-eqb _ _ k, ← m, t)
+      pub mark-entry : b ≡ false → Dereference m ≡ choiceByMark v d c x u m
+      mark-entry t = rw (ne-eqb _ _ h, ne-eqb _ _ k, ← e, t)
 
 -- two records
 module _ (d : List ℕ) (i k p q : ℕ) (ep : Reads (symbolOf d i) numberLimit p) (eq : Reads (symbolOf d k) numberLimit q) where
@@ -85,9 +85,9 @@ module _ (v : ℕ) (d : List ℕ) (c a b : ℕ) (ev : Reads (byteAt d unknownsAt
   choose-interchange h = rw (← ev .same, ← ep, h)
 
   module _ (h : p ≡ false) (q : Bool) (eq : q ≡ lessIn v b a) where
-    pub choose-by-mark : (r : Choice) → q ≡ true → r ≡ choiceByMark v d c a b (getD (storeOf c d) a 0) → r ≡ choiceOf (byteAt d unknownsAt) d c a b
+    pub choose-by-mark : (r : Choice) (marks : List ℕ) → q ≡ true → marks ≡ storeOf c d → r ≡ choiceByMark v d c a b (getD marks a 0) → r ≡ choiceOf (byteAt d unknownsAt) d c a b
     unfolding choiceOf
-    choose-by-mark r g e = rw (← ev .same, ← ep, h, ← eq, g) e
+    choose-by-mark r marks g m e = rw (← ev .same, ← ep, h, ← eq, g, ← m) e
 
     module _ (g : q ≡ false) where
       pub choose-identify : a < v → Identify ≡ choiceOf (byteAt d unknownsAt) d c a b

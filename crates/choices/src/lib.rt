@@ -1,4 +1,6 @@
-// Which rule a statement takes: decided from the sizes, the table, and its cabinet's store and memo, and changing nothing.
+// Which rule a statement takes: decided from the sizes, the table, its cabinet's store, given as a value, and its memo, and
+// changing nothing.
+use layout::Store;
 ghost use mathlib.Core.Path.{_≡_};
 ghost use mathlib.Core.Bool.{_&&_};
 ghost use Prim.Native.Nat.{_≤_, _<_};
@@ -52,12 +54,11 @@ fn met(run: &[u8], v: usize, c: usize, x: usize, u: usize) -> bool
     false
 }
 
-// The choice for x = u, u less than x, by the mark of x in the store of cabinet c.
-fn by_mark(run: &[u8], v: usize, c: usize, x: usize, u: usize) -> Choice
+// The choice for x = u, u less than x, by the mark of x in the store s of cabinet c.
+fn by_mark(run: &[u8], s: Store, v: usize, c: usize, x: usize, u: usize) -> Choice
     requires { ⌜ (length (now run) ≡ runBytes) × (v ≤ mostUnknowns) × (c < mostCabinets) × (x < v) ⌝ }
-    ensures { λ r. ⌜ r ≡ choiceByMark v (now (run .entry)) c x u (getD (storeOf c (now (run .entry))) x 0) ⌝ }
+    ensures { λ r. ⌜ r ≡ choiceByMark v (now (run .entry)) c x u (getD (s .marks) x 0) ⌝ }
 {
-    let s = layout::load_store(run, c);
     let m = s.marks[x];
     if m == NOTHING {
         return Choice::Initiate;
@@ -85,9 +86,9 @@ fn by_records(run: &[u8], i: usize, k: usize) -> Choice
     Choice::Decompose
 }
 
-// What the statement a = b does at cabinet c.
-pub fn choose(run: &[u8], c: usize, a: usize, b: usize) -> Choice
-    requires { ⌜ StatementIn (now run) c a b ⌝ }
+// What the statement a = b does at cabinet c, whose store is s.
+pub fn choose(run: &[u8], s: Store, c: usize, a: usize, b: usize) -> Choice
+    requires { ⌜ StatementIn (now run) c a b × (s .marks ≡ storeOf c (now run)) ⌝ }
     ensures { λ r. ⌜ r ≡ choiceOf (byteAt (now (run .entry)) unknownsAt) (now (run .entry)) c a b ⌝ }
 {
     let v = layout::unknowns(run);
@@ -95,7 +96,7 @@ pub fn choose(run: &[u8], c: usize, a: usize, b: usize) -> Choice
         return Choice::Interchange;
     }
     if less(v, b, a) {
-        return by_mark(run, v, c, a, b);
+        return by_mark(run, s, v, c, a, b);
     }
     if a < v {
         return Choice::Identify;

@@ -35,7 +35,7 @@ module _ (d e : List ℕ) (c x u v : ℕ) (ev : Reads (byteAt d unknownsAt) byte
 
 -- the length and the count after an item went
 module _ (d : List ℕ) (p n : ℕ) (f : Fits d p n) where
-  gap-long : length (gone itemBytes (itemFrom p) (itemFrom (countOf d)) d) ≡ length d
+  pub gap-long : length (gone itemBytes (itemFrom p) (itemFrom (countOf d)) d) ≡ length d
   gap-long = length-gone itemBytes (itemFrom p) (itemFrom (countOf d)) d (omega (arith, f .place)) (omega (arith, f .long, f .count))
 
   removed-long : length (removedAt p d) ≡ runBytes
@@ -73,12 +73,12 @@ module _ (d e : List ℕ) (p : ℕ) (q : e ≡ removedAt p d) where
       record { long = ap length q ∙ removed-long d p n f; enough = omega (arith, ap countOf q, removed-count d p n f, f .place, f .enough) }
 
 -- a byte that is set, or a region that is put, elsewhere leaves the count
-set-count : (d : List ℕ) (at v : ℕ) → 8 ≤ at → countOf (set d at v) ≡ countOf d
+pub set-count : (d : List ℕ) (at v : ℕ) → 8 ≤ at → countOf (set d at v) ≡ countOf d
 unfolding countOf
 set-count d at v h =
     omega (arith, getD-set-other d at 6 v 0 (λ e. let z : ⊥ = omega arith in z), getD-set-other d at 7 v 0 (λ e. let z : ⊥ = omega arith in z))
 
-clash-count : (d : List ℕ) (c : ℕ) → countOf (withClash c d) ≡ countOf d
+pub clash-count : (d : List ℕ) (c : ℕ) → countOf (withClash c d) ≡ countOf d
 unfolding countOf withClash
 clash-count d c =
     omega (
@@ -89,12 +89,12 @@ clash-count d c =
       getD-set-other d 0 7 1 0 (λ e. let z : ⊥ = omega arith in z),
     )
 
-put-count : (at : ℕ) (vs d : List ℕ) → 8 ≤ at → at + length vs ≤ length d → countOf (put at vs d) ≡ countOf d
+pub put-count : (at : ℕ) (vs d : List ℕ) → 8 ≤ at → at + length vs ≤ length d → countOf (put at vs d) ≡ countOf d
 unfolding countOf
 put-count at vs d h g = omega (arith, put-before at vs d g 6 (omega arith), put-before at vs d g 7 (omega arith))
 
 -- the same count and length are as fitting
-as-fitting : (d e : List ℕ) (p n : ℕ) → countOf e ≡ countOf d → length e ≡ length d → Fits d p n → Fits e p n
+pub as-fitting : (d e : List ℕ) (p n : ℕ) → countOf e ≡ countOf d → length e ≡ length d → Fits d p n → Fits e p n
 as-fitting d e p n h l f =
     record {
       long = l ∙ f .long;
@@ -105,14 +105,6 @@ as-fitting d e p n h l f =
 
 -- what a rule's change leaves fits as before
 module _ (d e : List ℕ) (p n : ℕ) where
-  pub mark-fits : (c x m : ℕ) → e ≡ applied (mark c x m) d → c < mostCabinets → Fits d p n → Fits e p n
-  unfolding withStore storeOf
-  mark-fits c x m q h f =
-      let vs : List ℕ = set (get (storeFrom c) mostUnknowns d) x m in
-      let w : length vs ≡ mostUnknowns = length-set (get (storeFrom c) mostUnknowns d) x m ∙ length-get (storeFrom c) mostUnknowns d (omega (arith, f .long)) in
-      let g : storeFrom c + length vs ≤ length d = omega (arith, f .long) in
-      as-fitting d e p n (ap countOf q ∙ put-count (storeFrom c) vs d (omega arith) g) (ap length q ∙ length-put (storeFrom c) vs d g) f
-
   pub pair-fits : (c x u v : ℕ) → e ≡ applied (pick (ltb u v) (pair c x u) nothing) d → Fits d p n → Fits e p n
   unfolding withPair
   pair-fits c x u v q f = go (ltb u v) q

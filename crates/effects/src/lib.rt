@@ -1,5 +1,6 @@
-// What the rules do to the run: each function makes its rule's one change, takes the item away and appends the products in
-// order, and so leaves what the rule's plan in rules/specs/Plans.antt says.
+// What the rules do: each function makes its rule's one change, takes the item away and appends the products in order, and so
+// leaves what the rule's plan in rules/specs/Plans.antt says. A local rule, all but 8 and 9, is given its cabinet's store as a
+// value and gives it back; who takes the store out of the run puts it back.
 use layout::Store;
 use paper::Item;
 ghost use mathlib.Core.Path.{_≡_};
@@ -14,7 +15,7 @@ ghost use Rattle.paper.specs.declared.Item.the-variants.{Statement, Ask};
 ghost use Rattle.layout.specs.Offsets.{unknownsAt, runBytes};
 ghost use Rattle.layout.specs.Fields.{byteAt, partsFrom};
 ghost use Rattle.layout.specs.Changes.{removedAt, appendedAll};
-ghost use Rattle.effects.specs.Changes.{nothing, mark, owner, pair, clash, applied};
+ghost use Rattle.effects.specs.Changes.{left, nothing, owner, pair, clash, applied};
 ghost use Rattle.effects.specs.Given.{Fits, Room, elementsFrom};
 
 // The mark of an unknown whose ask is on its way.
@@ -22,42 +23,14 @@ const INITIATED: u8 = 254;
 
 const MOST_PARTS: usize = 4;
 
-// The mark of x becomes 254, initiated.
-fn initiate(s: Store, x: usize) -> Store
+// The store with m as its mark for x.
+fn marked(s: Store, x: u8, m: u8) -> Store
     requires { ⌜ x < mostUnknowns ⌝ }
-    ensures { λ r. ⌜ r .marks ≡ set (s .marks) x 254 ⌝ }
+    ensures { λ r. ⌜ r .marks ≡ set (s .marks) x m ⌝ }
 {
     let mut marks = s.marks;
-    marks[x] = INITIATED;
+    marks[x as usize] = m;
     Store { marks }
-}
-
-// The mark of x becomes u, the entry that the news brings.
-fn arrive(s: Store, x: usize, u: u8) -> Store
-    requires { ⌜ x < mostUnknowns ⌝ }
-    ensures { λ r. ⌜ r .marks ≡ set (s .marks) x u ⌝ }
-{
-    let mut marks = s.marks;
-    marks[x] = u;
-    Store { marks }
-}
-
-// The mark of x in the store of cabinet c becomes 254.
-fn mark_initiated(run: &mut [u8], c: u8, x: u8)
-    requires { ⌜ (length (now run) ≡ runBytes) × (c < mostCabinets) × (x < mostUnknowns) ⌝ }
-    ensures { λ _. ⌜ now (run .exit) ≡ applied (mark c x 254) (now (run .entry)) ⌝ }
-{
-    let s = layout::load_store(run, c as usize);
-    layout::save_store(run, c as usize, initiate(s, x as usize));
-}
-
-// The mark of x in the store of cabinet c becomes u.
-fn mark_arrived(run: &mut [u8], c: u8, x: u8, u: u8)
-    requires { ⌜ (length (now run) ≡ runBytes) × (c < mostCabinets) × (x < mostUnknowns) ⌝ }
-    ensures { λ _. ⌜ now (run .exit) ≡ applied (mark c x u) (now (run .entry)) ⌝ }
-{
-    let s = layout::load_store(run, c as usize);
-    layout::save_store(run, c as usize, arrive(s, x as usize, u));
 }
 
 // The memo of cabinet c gains the pair of x and u if u is an unknown.
@@ -72,7 +45,7 @@ fn note_pair(run: &mut [u8], c: u8, x: u8, u: u8)
     layout::set_pair(run, c as usize, x as usize, u as usize);
 }
 
-// The item at `place` goes, and nothing comes: rules 2, 4 and 9, and the end of 5 and 10.
+// The item at `place` goes, and nothing comes: all of rule 9, and the end of 2, 4, 5, 8 and 10.
 pub fn replace_by_none(run: &mut [u8], place: usize)
     requires { ⌜ Fits (now run) place 0 ⌝ }
     ensures { λ _. ⌜ now (run .exit) ≡ removedAt place (now (run .entry)) ⌝ }
@@ -100,9 +73,9 @@ fn replace_by_two(run: &mut [u8], place: usize, j: Item, k: Item)
 }
 
 // Rule 1: the statement with its sides exchanged.
-pub fn interchange(run: &mut [u8], place: usize, c: u8, a: u8, b: u8)
+pub fn interchange(run: &mut [u8], s: Store, place: usize, c: u8, a: u8, b: u8) -> Store
     requires { ⌜ Fits (now run) place 1 ⌝ }
-    ensures { λ _. ⌜ now (run .exit) ≡ appendedAll (Statement c b a ∷ []) (removedAt place (now (run .entry))) ⌝ }
+    ensures { λ r. ⌜ left (r .marks) (now (run .exit)) ≡ left (s .marks) (appendedAll (Statement c b a ∷ []) (removedAt place (now (run .entry)))) ⌝ }
 {
     replace_by_one(
         run,
@@ -113,12 +86,30 @@ pub fn interchange(run: &mut [u8], place: usize, c: u8, a: u8, b: u8)
             right: a,
         },
     );
+    s
+}
+
+// Rule 2: the statement goes, for the memo has its pair.
+pub fn memo(run: &mut [u8], s: Store, place: usize) -> Store
+    requires { ⌜ Fits (now run) place 0 ⌝ }
+    ensures { λ r. ⌜ left (r .marks) (now (run .exit)) ≡ left (s .marks) (removedAt place (now (run .entry))) ⌝ }
+{
+    replace_by_none(run, place);
+    s
 }
 
 // Rule 3: the memo gains the pair if b is an unknown; m, the store's entry for a, equals b.
-pub fn dereference(run: &mut [u8], place: usize, c: u8, a: u8, b: u8, m: u8)
+pub fn dereference(
+    run: &mut [u8],
+    s: Store,
+    place: usize,
+    c: u8,
+    a: u8,
+    b: u8,
+    m: u8,
+) -> Store
     requires { ⌜ Fits (now run) place 1 × (byteAt (now run) unknownsAt ≤ mostUnknowns) × (c < mostCabinets) × (a < mostUnknowns) ⌝ }
-    ensures { λ _. ⌜ now (run .exit) ≡ appendedAll (Statement c m b ∷ []) (removedAt place (applied (pick (ltb b (byteAt (now (run .entry)) unknownsAt)) (pair c a b) nothing) (now (run .entry)))) ⌝ }
+    ensures { λ r. ⌜ left (r .marks) (now (run .exit)) ≡ left (s .marks) (appendedAll (Statement c m b ∷ []) (removedAt place (applied (pick (ltb b (byteAt (now (run .entry)) unknownsAt)) (pair c a b) nothing) (now (run .entry))))) ⌝ }
 {
     note_pair(run, c, a, b);
     replace_by_one(
@@ -130,23 +121,33 @@ pub fn dereference(run: &mut [u8], place: usize, c: u8, a: u8, b: u8, m: u8)
             right: b,
         },
     );
+    s
+}
+
+// Rule 4: the statement goes, for its sides are one unknown.
+pub fn identify(run: &mut [u8], s: Store, place: usize) -> Store
+    requires { ⌜ Fits (now run) place 0 ⌝ }
+    ensures { λ r. ⌜ left (r .marks) (now (run .exit)) ≡ left (s .marks) (removedAt place (now (run .entry))) ⌝ }
+{
+    replace_by_none(run, place);
+    s
 }
 
 // Rule 5: the run clashed in cabinet c.
-pub fn conflict(run: &mut [u8], place: usize, c: u8)
+pub fn conflict(run: &mut [u8], s: Store, place: usize, c: u8) -> Store
     requires { ⌜ Fits (now run) place 0 ⌝ }
-    ensures { λ _. ⌜ now (run .exit) ≡ removedAt place (applied (clash c) (now (run .entry))) ⌝ }
+    ensures { λ r. ⌜ left (r .marks) (now (run .exit)) ≡ left (s .marks) (removedAt place (applied (clash c) (now (run .entry)))) ⌝ }
 {
     layout::set_clash(run, c);
     replace_by_none(run, place);
+    s
 }
 
 // Rule 7: the store's mark for a becomes 254; an ask, then the statement again.
-pub fn initiate_at(run: &mut [u8], place: usize, c: u8, a: u8, b: u8)
-    requires { ⌜ Fits (now run) place 2 × (c < mostCabinets) × (a < mostUnknowns) ⌝ }
-    ensures { λ _. ⌜ now (run .exit) ≡ appendedAll (Ask c a b ∷ Statement c a b ∷ []) (removedAt place (applied (mark c a 254) (now (run .entry)))) ⌝ }
+pub fn initiate(run: &mut [u8], s: Store, place: usize, c: u8, a: u8, b: u8) -> Store
+    requires { ⌜ Fits (now run) place 2 × (a < mostUnknowns) ⌝ }
+    ensures { λ r. ⌜ left (r .marks) (now (run .exit)) ≡ left (set (s .marks) a 254) (appendedAll (Ask c a b ∷ Statement c a b ∷ []) (removedAt place (now (run .entry)))) ⌝ }
 {
-    mark_initiated(run, c, a);
     replace_by_two(
         run,
         place,
@@ -161,15 +162,16 @@ pub fn initiate_at(run: &mut [u8], place: usize, c: u8, a: u8, b: u8)
             right: b,
         },
     );
+    marked(s, a, INITIATED)
 }
 
-// Rule 10: the store's mark for x becomes u.
-pub fn arrive_at(run: &mut [u8], place: usize, c: u8, x: u8, u: u8)
-    requires { ⌜ Fits (now run) place 0 × (c < mostCabinets) × (x < mostUnknowns) ⌝ }
-    ensures { λ _. ⌜ now (run .exit) ≡ removedAt place (applied (mark c x u) (now (run .entry))) ⌝ }
+// Rule 10: the store's mark for x becomes u, the entry that the news brings.
+pub fn arrive(run: &mut [u8], s: Store, place: usize, x: u8, u: u8) -> Store
+    requires { ⌜ Fits (now run) place 0 × (x < mostUnknowns) ⌝ }
+    ensures { λ r. ⌜ left (r .marks) (now (run .exit)) ≡ left (set (s .marks) x u) (removedAt place (now (run .entry))) ⌝ }
 {
-    mark_arrived(run, c, x, u);
     replace_by_none(run, place);
+    marked(s, x, u)
 }
 
 // The four part places of a record.
@@ -210,14 +212,23 @@ fn append_parts(run: &mut [u8], c: u8, ps: Parts, qs: Parts, n: usize)
 }
 
 // Rule 6: one statement for each of the n parts that records i and k have.
-pub fn decompose(run: &mut [u8], place: usize, c: u8, i: usize, k: usize, n: usize)
+pub fn decompose(
+    run: &mut [u8],
+    s: Store,
+    place: usize,
+    c: u8,
+    i: usize,
+    k: usize,
+    n: usize,
+) -> Store
     requires { ⌜ Fits (now run) place n × (i < mostRecords) × (k < mostRecords) × (n ≤ mostParts) ⌝ }
-    ensures { λ _. ⌜ now (run .exit) ≡ appendedAll (partStatements c (partsFrom (now (run .entry)) i n 0) (partsFrom (now (run .entry)) k n 0)) (removedAt place (now (run .entry))) ⌝ }
+    ensures { λ r. ⌜ left (r .marks) (now (run .exit)) ≡ left (s .marks) (appendedAll (partStatements c (partsFrom (now (run .entry)) i n 0) (partsFrom (now (run .entry)) k n 0)) (removedAt place (now (run .entry)))) ⌝ }
 {
     let ps = parts_of(run, i);
     let qs = parts_of(run, k);
     layout::remove_item(run, place);
     append_parts(run, c, ps, qs, n);
+    s
 }
 
 // News of x and u to cabinets 0 to s - 1.

@@ -5,28 +5,30 @@ use mathlib.Core.List.{List, [], _∷_}
 use Prim.Native.Nat.{ℕ, zero, suc, _-_, _≤_, _<_}
 use native.Mathlib.Omega.{arith}
 use lib.Dec.{ltb, eqb}
-use lib.ListN.{length, getD}
+use lib.ListN.{length, getD, set}
 use borrow.Author.Tests.{ltb-false, eqb-true}
 use Rattle.base.specs.Choice.{pick}
 use Rattle.base.proofs.Froms.{from-length}
 use Rattle.base.proofs.Tests.{snd-true}
-use Rattle.paper.specs.Sizes.{mostUnknowns, mostRecords, mostParts}
+use Rattle.paper.specs.Sizes.{mostCabinets, mostUnknowns, mostRecords, mostParts}
 use Rattle.paper.specs.Rules.{partStatements, newsTo}
+use Rattle.paper.specs.declared.Item.{Item}
 use Rattle.paper.specs.declared.Item.the-variants.{Statement, Ask}
 use Rattle.layout.specs.Offsets.{unknownsAt, memoFrom}
 use Rattle.layout.specs.Fields.{byteAt, symbolOf, partCountOf, partOf, partsFrom}
-use Rattle.layout.specs.Changes.{storeOf, removedAt, appendedAll}
+use Rattle.layout.specs.Changes.{storeOf, withStore, removedAt, appendedAll}
 use Rattle.layout.specs.Given.{Reads, byteLimit}
 use Rattle.choices.specs.declared.Choice.{Choice}
 use Rattle.choices.specs.declared.Choice.the-variants.{Waits, Interchange, Memo, Dereference, Identify, Conflict, Decompose, Initiate}
 use Rattle.choices.specs.Choices.{lessIn, choiceByMark, choiceByRecords, choiceOf}
 use Rattle.choices.specs.Given.{StatementIn}
 use Rattle.choices.proofs.ChoiceLaws.{greater-unknown, level-record}
-use Rattle.effects.specs.Changes.{nothing, mark, pair, clash, applied}
+use Rattle.effects.specs.Changes.{Change, nothing, mark, pair, clash, applied, Left, left}
 use Rattle.effects.specs.Given.{Fits}
-use Rattle.rules.specs.Plans.{partsOf, planOfChoice}
-use Rattle.rules.specs.Bytes.{out}
-use Rattle.rules.specs.Given.{productCount, carriedBytes}
+use Rattle.effects.proofs.StoreLaws.{Local, store-back, put-back}
+use Rattle.rules.specs.Plans.{plan, partsOf, planOfChoice}
+use Rattle.rules.specs.Bytes.{Out, out}
+use Rattle.rules.specs.Given.{productCount, Done, done, doneBytes, carriedBytes}
 
 -- what a choice says of the sides a and b
 abbrev Sides : List ℕ → ℕ → ℕ → Choice → Type 0
@@ -114,40 +116,49 @@ few-parts d c a b i n r s h = omega (arith, r .same, s .parts i h)
 pub initiate-fits : (d : List ℕ) (a p : ℕ) (q : Choice) → q ≡ Initiate → Fits d p (productCount d a q) → Fits d p 2
 initiate-fits d a p q f h = rw f at h
 
--- what each rule leaves is what its plan says
-module _ (d e : List ℕ) (p c a b : ℕ) (q : Choice) where
-  pub did-wait : q ≡ Waits → out 0 0 d ≡ carriedBytes d p (planOfChoice d c a b q)
+-- what each rule gives back and leaves is what its plan says
+abbrev numbered : ℕ → Left → Done
+numbered k (left ms e) = done k ms e
+
+module _ (marks ms d e : List ℕ) (p c a b : ℕ) (q : Choice) where
+  pub did-wait : q ≡ Waits → done 0 marks d ≡ doneBytes marks d p (planOfChoice d c a b q)
   did-wait f = rw f
 
-  pub did-interchange : q ≡ Interchange → e ≡ appendedAll (Statement c b a ∷ []) (removedAt p d) → out 0 1 e ≡ carriedBytes d p (planOfChoice d c a b q)
-  did-interchange f h = rw (f, h)
+  pub did-interchange : q ≡ Interchange → left ms e ≡ left marks (appendedAll (Statement c b a ∷ []) (removedAt p d))
+      → done 1 ms e ≡ doneBytes marks d p (planOfChoice d c a b q)
+  did-interchange f h = rw f (ap (numbered 1) h)
 
-  pub did-memo : q ≡ Memo → e ≡ removedAt p d → out 0 2 e ≡ carriedBytes d p (planOfChoice d c a b q)
-  did-memo f h = rw (f, h)
+  pub did-memo : q ≡ Memo → left ms e ≡ left marks (removedAt p d) → done 2 ms e ≡ doneBytes marks d p (planOfChoice d c a b q)
+  did-memo f h = rw f (ap (numbered 2) h)
 
   pub did-dereference : (m : ℕ) → q ≡ Dereference m
-      → e ≡ appendedAll (Statement c m b ∷ []) (removedAt p (applied (pick (ltb b (byteAt d unknownsAt)) (pair c a b) nothing) d))
-      → out 0 3 e ≡ carriedBytes d p (planOfChoice d c a b q)
-  did-dereference m f h = rw (f, h)
+      → left ms e ≡ left marks (appendedAll (Statement c m b ∷ []) (removedAt p (applied (pick (ltb b (byteAt d unknownsAt)) (pair c a b) nothing) d)))
+      → done 3 ms e ≡ doneBytes marks d p (planOfChoice d c a b q)
+  did-dereference m f h = rw f (go (ltb b (byteAt d unknownsAt)) h)
+    where
+      go : (t : Bool) → left ms e ≡ left marks (appendedAll (Statement c m b ∷ []) (removedAt p (applied (pick t (pair c a b) nothing) d)))
+          → done 3 ms e ≡ doneBytes marks d p (plan 3 (Statement c m b ∷ []) (pick t (pair c a b) nothing))
+      go true g = ap (numbered 3) g
+      go false g = ap (numbered 3) g
 
-  pub did-identify : q ≡ Identify → e ≡ removedAt p d → out 0 4 e ≡ carriedBytes d p (planOfChoice d c a b q)
-  did-identify f h = rw (f, h)
+  pub did-identify : q ≡ Identify → left ms e ≡ left marks (removedAt p d) → done 4 ms e ≡ doneBytes marks d p (planOfChoice d c a b q)
+  did-identify f h = rw f (ap (numbered 4) h)
 
-  pub did-conflict : q ≡ Conflict → e ≡ removedAt p (applied (clash c) d) → out 0 5 e ≡ carriedBytes d p (planOfChoice d c a b q)
-  did-conflict f h = rw (f, h)
+  pub did-conflict : q ≡ Conflict → left ms e ≡ left marks (removedAt p (applied (clash c) d)) → done 5 ms e ≡ doneBytes marks d p (planOfChoice d c a b q)
+  did-conflict f h = rw f (ap (numbered 5) h)
 
   pub did-decompose : (w n : ℕ) → q ≡ choiceOf (byteAt d unknownsAt) d c a b → q ≡ Decompose → Reads (byteAt d unknownsAt) byteLimit w
       → Reads (partCountOf d (a - w)) byteLimit n
-      → e ≡ appendedAll (partStatements c (partsFrom d (a - w) n 0) (partsFrom d (b - w) n 0)) (removedAt p d)
-      → out 0 6 e ≡ carriedBytes d p (planOfChoice d c a b q)
+      → left ms e ≡ left marks (appendedAll (partStatements c (partsFrom d (a - w) n 0) (partsFrom d (b - w) n 0)) (removedAt p d))
+      → done 6 ms e ≡ doneBytes marks d p (planOfChoice d c a b q)
   did-decompose w n k f r s h =
       let x : n ≡ partCountOf d (a - byteAt d unknownsAt) = s .same ∙ rw (r .same) refl in
       let y : n ≡ partCountOf d (b - byteAt d unknownsAt) = x ∙ same-counts d c a b q k f in
-      rw (f, ← x, ← y, ← r .same) (ap (out 0 6) h)
+      rw (f, ← x, ← y, ← r .same) (ap (numbered 6) h)
 
-  pub did-initiate : q ≡ Initiate → e ≡ appendedAll (Ask c a b ∷ Statement c a b ∷ []) (removedAt p (applied (mark c a 254) d))
-      → out 0 7 e ≡ carriedBytes d p (planOfChoice d c a b q)
-  did-initiate f h = rw (f, h)
+  pub did-initiate : q ≡ Initiate → left ms e ≡ left (set marks a 254) (appendedAll (Ask c a b ∷ Statement c a b ∷ []) (removedAt p d))
+      → done 7 ms e ≡ doneBytes marks d p (planOfChoice d c a b q)
+  did-initiate f h = rw f (ap (numbered 7) h)
 
 -- a plan has as many products as are counted
 part-statements : (c : ℕ) (ps qs : List ℕ) → length ps ≡ length qs → length (partStatements c ps qs) ≡ length ps
@@ -163,6 +174,37 @@ decompose-count d c a b e =
     let x : length (partsOf d a) ≡ partCountOf d (a - byteAt d unknownsAt) = from-length (partOf d (a - byteAt d unknownsAt)) n 0 in
     let y : length (partsOf d b) ≡ partCountOf d (b - byteAt d unknownsAt) = from-length (partOf d (b - byteAt d unknownsAt)) m 0 in
     part-statements c (partsOf d a) (partsOf d b) (x ∙ same-counts d c a b Decompose e refl ∙ sym y) ∙ x
+
+-- with the store put back, what a statement's rule leaves
+module _ (d : List ℕ) (p c a b : ℕ) (hc : c < mostCabinets) where
+  abbrev saved : Done → Out
+  saved (done n ms e) = out 0 n (withStore c ms e)
+
+  saved-plan : (k : ℕ) (js : List Item) (ch : Change) → Local c ch → Fits d p (length js)
+      → saved (doneBytes (storeOf c d) d p (plan k js ch)) ≡ carriedBytes d p (plan k js ch)
+  saved-plan k js ch h f = ap (out 0 k) (put-back c hc d p js f ch h)
+
+  saved-choice : (q : Choice) → q ≡ choiceOf (byteAt d unknownsAt) d c a b → Fits d p (productCount d a q)
+      → saved (doneBytes (storeOf c d) d p (planOfChoice d c a b q)) ≡ carriedBytes d p (planOfChoice d c a b q)
+  saved-choice Waits e f = ap (out 0 0) (store-back c hc d (f .long))
+  saved-choice Interchange e f = saved-plan 1 (Statement c b a ∷ []) nothing tt f
+  saved-choice Memo e f = saved-plan 2 [] nothing tt f
+  saved-choice (Dereference m) e f = saved-plan 3 (Statement c m b ∷ []) (pick (ltb b (byteAt d unknownsAt)) (pair c a b) nothing) (local (ltb b (byteAt d unknownsAt))) f
+    where
+      local : (t : Bool) → Local c (pick t (pair c a b) nothing)
+      local true = tt
+      local false = tt
+  saved-choice Identify e f = saved-plan 4 [] nothing tt f
+  saved-choice Conflict e f = saved-plan 5 [] (clash c) tt f
+  saved-choice Decompose e f =
+      saved-plan 6 (partStatements c (partsOf d a) (partsOf d b)) nothing tt (subst (Fits d p) (sym (decompose-count d c a b e)) f)
+  saved-choice Initiate e f = saved-plan 7 (Ask c a b ∷ Statement c a b ∷ []) (mark c a 254) refl f
+
+pub carried : (d : List ℕ) (p c a b : ℕ) (q : Choice) (n : ℕ) (marks ms e e′ : List ℕ) → StatementIn d c a b → Fits d p (productCount d a q)
+    → q ≡ choiceOf (byteAt d unknownsAt) d c a b → marks ≡ storeOf c d → done n ms e ≡ doneBytes marks d p (planOfChoice d c a b q) → e′ ≡ withStore c ms e
+    → out 0 n e′ ≡ carriedBytes d p (planOfChoice d c a b q)
+carried d p c a b q n marks ms e e′ s f k m h g =
+    ap (out 0 n) g ∙ ap (saved d p c a b (s .cabinet)) (h ∙ ap (λ (l : List ℕ). doneBytes l d p (planOfChoice d c a b q)) m) ∙ saved-choice d p c a b (s .cabinet) q k f
 
 pub news-count : (k c x u : ℕ) → length (newsTo c k x u) ≡ k
 news-count zero c x u = refl

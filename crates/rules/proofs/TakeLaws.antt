@@ -1,5 +1,5 @@
 -- Laws of one item taken: the refusals in their order, and what is left where none holds.
-use mathlib.Core.Path.{_≡_, refl, sym, subst, _∙_}
+use mathlib.Core.Path.{_≡_, refl, sym, subst, ap, _∙_}
 use mathlib.Core.Logic.{_⊎_, ⊎-elim}
 use mathlib.Core.Bool.{Bool, true, false}
 use mathlib.Core.List.{List, [], _∷_}
@@ -8,23 +8,25 @@ use native.Mathlib.Omega.{arith}
 use types.Run.{OneOf}
 use denote.Enum.Declared.{tagOf}
 use lib.Dec.{ltb, leb, eqb}
+use lib.ListN.{set}
 use borrow.Author.Tests.{ltb-true, ltb-false, lt-ltb, le-ltb, le-leb, lt-leb, eq-eqb, ne-eqb}
 use Rattle.base.specs.Choice.{pick}
-use Rattle.paper.specs.Sizes.{room}
+use Rattle.paper.specs.Sizes.{mostCabinets, room}
 use Rattle.paper.specs.Refusals.{noSuchPlace, stillWaits, hasClashed, noRoom}
 use Rattle.paper.specs.Rules.{newsTo}
 use Rattle.paper.specs.declared.Item.{Item}
 use Rattle.paper.specs.declared.Item.the-variants.{Statement, Ask, News}
 use Rattle.layout.specs.Offsets.{clashAt, cabinetsAt, unknownsAt, ownersAt}
 use Rattle.layout.specs.Fields.{byteAt, countOf, itemAt}
-use Rattle.layout.specs.Changes.{removedAt, appendedAll}
+use Rattle.layout.specs.Changes.{removedAt, appendedAll, storeOf, withStore}
 use Rattle.layout.specs.Given.{Reads, byteLimit, countLimit}
 use Rattle.choices.proofs.Choice as kind
 use Rattle.choices.specs.declared.Choice.{Choice}
 use Rattle.choices.specs.declared.Choice.the-variants.{Waits, Interchange, Memo, Dereference, Identify, Conflict, Decompose, Initiate}
 use Rattle.choices.specs.Choices.{choiceOf}
-use Rattle.effects.specs.Changes.{nothing, mark, owner, applied}
+use Rattle.effects.specs.Changes.{nothing, mark, owner, applied, Left, left}
 use Rattle.effects.specs.Given.{Fits}
+use Rattle.effects.proofs.StoreLaws.{put-back}
 use Rattle.rules.specs.Plans.{plan, planOfChoice, planOfAsk, planOf}
 use Rattle.rules.specs.Bytes.{out, performedBytes, takenBytes}
 use Rattle.rules.specs.Given.{productCount, fullFor, carriedBytes, waitsIn, waitsBytes}
@@ -122,9 +124,15 @@ module _ (d : List ℕ) (p x u o : ℕ) (r : Reads (byteAt d (ownersAt + x)) byt
         let l : leb (countOf d - 1 + s) room ≡ true = le-leb (countOf d - 1 + s) room (enough d p s t e f) in
         rw (← r .same, eq-eqb o 255 h, ← rs .same, news-count s 0 x u, l, g)
 
-pub news-arrived : (d d′ : List ℕ) (p c x u : ℕ) → Fits d p 0 → d′ ≡ removedAt p (applied (mark c x u) d)
-    → out 0 10 d′ ≡ performedBytes d p (plan 10 [] (mark c x u))
-news-arrived d d′ p c x u h e = rw (none-more d p h, e)
+pub news-arrived : (d e d′ marks ms : List ℕ) (p c x u : ℕ) → Fits d p 0 → c < mostCabinets → marks ≡ storeOf c d
+    → left ms e ≡ left (set marks x u) (removedAt p d) → d′ ≡ withStore c ms e → out 0 10 d′ ≡ performedBytes d p (plan 10 [] (mark c x u))
+news-arrived d e d′ marks ms p c x u h hc m l g =
+    let back : withStore c ms e ≡ removedAt p (applied (mark c x u) d) =
+    ap (saved c) l ∙ ap (λ (s : List ℕ). withStore c (set s x u) (removedAt p d)) m ∙ put-back c hc d p [] h (mark c x u) refl in
+    rw (none-more d p h, g, back)
+  where
+    saved : ℕ → Left → List ℕ
+    saved c (left ms e) = withStore c ms e
 
 -- 15 and 13, and then what the item does
 module _ (d : List ℕ) (p k : ℕ) (r : Reads (byteAt d clashAt) byteLimit k) where

@@ -10,7 +10,7 @@ use Rattle.layout.specs.Fields.{byteAt, countOf, partCountOf, itemAt}
 use Rattle.layout.specs.Changes.{removedAt, appendedAll}
 use Rattle.choices.specs.declared.Choice.{Choice}
 use Rattle.choices.specs.declared.Choice.the-variants.{Waits, Interchange, Memo, Dereference, Identify, Conflict, Decompose, Initiate}
-use Rattle.effects.specs.Changes.{applied}
+use Rattle.effects.specs.Changes.{applied, ofStore, ofRun}
 use Rattle.rules.specs.Plans.{Plan, wait, plan, planOf}
 use Rattle.rules.specs.Bytes.{Out, out}
 
@@ -28,6 +28,15 @@ productCount d a Initiate = 2
 -- there is no room for n products once an item goes
 unfoldable pub fullFor : ℕ → List ℕ → Bool
 fullFor n d = ltb room (countOf d - 1 + n)
+
+-- a local rule's number, the store that it gives back, and the bytes that it leaves, where there is room; what waits leaves all
+-- as it is
+pub data Done : Type 0 where
+  done : ℕ → List ℕ → List ℕ → Done
+
+abbrev pub doneBytes : List ℕ → List ℕ → ℕ → Plan → Done
+doneBytes marks d i wait = done 0 marks d
+doneBytes marks d i (plan k ps ch) = done k (ofStore ch marks) (appendedAll ps (removedAt i (ofRun ch d)))
 
 -- the rule's number and the bytes that are left where there is room; what waits leaves all as it is
 abbrev pub carriedBytes : List ℕ → ℕ → Plan → Out

@@ -1,5 +1,6 @@
 // One item is taken: 15, 13, 14 and 18 refuse it, in this order and before anything is changed; else its rule is carried out.
 use choices::Choice;
+use layout::Store;
 use paper::Item;
 ghost use mathlib.Core.Path.{_≡_};
 ghost use mathlib.Core.Bool.{true};
@@ -9,6 +10,7 @@ ghost use lib.ListN.{length};
 ghost use Rattle.paper.specs.Sizes.{mostCabinets, mostUnknowns, mostRecords};
 ghost use Rattle.layout.specs.Offsets.{cabinetsAt, unknownsAt, recordsAt, ownersAt, runBytes};
 ghost use Rattle.layout.specs.Fields.{byteAt, countOf};
+ghost use Rattle.layout.specs.Changes.{storeOf};
 ghost use Rattle.layout.specs.Soundness.{soundBytes};
 ghost use Rattle.layout.specs.Given.{Reads, byteLimit};
 ghost use Rattle.choices.specs.declared.Choice.the-variants.{Decompose};
@@ -18,7 +20,7 @@ ghost use Rattle.effects.specs.Changes.{mark};
 ghost use Rattle.effects.specs.Given.{Fits};
 ghost use Rattle.rules.specs.Plans.{plan, planOfChoice, planOfAsk};
 ghost use Rattle.rules.specs.Bytes.{out, performedBytes, takenBytes};
-ghost use Rattle.rules.specs.Given.{productCount, fullFor, carriedBytes, waitsIn, waitsBytes};
+ghost use Rattle.rules.specs.Given.{productCount, fullFor, done, doneBytes, carriedBytes, waitsIn, waitsBytes};
 
 const ROOM: usize = 12672;
 
@@ -66,53 +68,70 @@ fn full(run: &[u8], n: usize) -> bool
     layout::count(run) - 1 + n > ROOM
 }
 
-// The rule of a statement's choice is carried out, and its number given; where it waits, nothing is changed.
-fn carry_out(run: &mut [u8], place: usize, c: u8, a: u8, b: u8, q: Choice) -> usize
+// A local rule's number, and the store that it gives back.
+struct Done {
+    rule: usize,
+    store: Store,
+}
+
+// The rule of a statement's choice, with its cabinet's store in and out by value; where it waits, nothing is changed.
+fn by_choice(run: &mut [u8], s: Store, place: usize, c: u8, a: u8, b: u8, q: Choice) -> Done
     requires { ⌜ StatementIn (now run) c a b × Fits (now run) place (productCount (now run) a q) × (q ≡ choiceOf (byteAt (now run) unknownsAt) (now run) c a b) ⌝ }
-    ensures { λ n. ⌜ out 0 n (now (run .exit)) ≡ carriedBytes (now (run .entry)) place (planOfChoice (now (run .entry)) c a b q) ⌝ }
+    ensures { λ r. ⌜ done (r .rule) (r .store .marks) (now (run .exit)) ≡ doneBytes (s .marks) (now (run .entry)) place (planOfChoice (now (run .entry)) c a b q) ⌝ }
 {
     match q {
-        Choice::Waits => 0,
+        Choice::Waits => Done { rule: 0, store: s },
         Choice::Interchange => {
-            effects::interchange(run, place, c, a, b);
-            1
+            let store = effects::interchange(run, s, place, c, a, b);
+            Done { rule: 1, store }
         }
         Choice::Memo => {
-            effects::replace_by_none(run, place);
-            2
+            let store = effects::memo(run, s, place);
+            Done { rule: 2, store }
         }
         Choice::Dereference(m) => {
-            effects::dereference(run, place, c, a, b, m);
-            3
+            let store = effects::dereference(run, s, place, c, a, b, m);
+            Done { rule: 3, store }
         }
         Choice::Identify => {
-            effects::replace_by_none(run, place);
-            4
+            let store = effects::identify(run, s, place);
+            Done { rule: 4, store }
         }
         Choice::Conflict => {
-            effects::conflict(run, place, c);
-            5
+            let store = effects::conflict(run, s, place, c);
+            Done { rule: 5, store }
         }
         Choice::Decompose => {
             let v = layout::unknowns(run);
             let i = a as usize - v;
             let n = layout::part_count(run, i);
-            effects::decompose(run, place, c, i, b as usize - v, n);
-            6
+            let store = effects::decompose(run, s, place, c, i, b as usize - v, n);
+            Done { rule: 6, store }
         }
         Choice::Initiate => {
-            effects::initiate_at(run, place, c, a, b);
-            7
+            let store = effects::initiate(run, s, place, c, a, b);
+            Done { rule: 7, store }
         }
     }
 }
 
-// The statement a = b at `place`: its choice, 14 and 18, then its rule.
+// The rule of a statement's choice is carried out, the store goes back, and the rule's number is given.
+fn carry_out(run: &mut [u8], s: Store, place: usize, c: u8, a: u8, b: u8, q: Choice) -> usize
+    requires { ⌜ StatementIn (now run) c a b × Fits (now run) place (productCount (now run) a q) × (q ≡ choiceOf (byteAt (now run) unknownsAt) (now run) c a b) × (s .marks ≡ storeOf c (now run)) ⌝ }
+    ensures { λ n. ⌜ out 0 n (now (run .exit)) ≡ carriedBytes (now (run .entry)) place (planOfChoice (now (run .entry)) c a b q) ⌝ }
+{
+    let r = by_choice(run, s, place, c, a, b, q);
+    layout::save_store(run, c as usize, r.store);
+    r.rule
+}
+
+// The statement a = b at `place`: its choice by its cabinet's store, 14 and 18, then its rule.
 fn take_statement(run: &mut [u8], place: usize, c: u8, a: u8, b: u8) -> StepReply
     requires { ⌜ StatementIn (now run) c a b × Fits (now run) place 0 ⌝ }
     ensures { λ r. ⌜ out (r .number) (r .rule) (now (run .exit)) ≡ performedBytes (now (run .entry)) place (planOfChoice (now (run .entry)) c a b (choiceOf (byteAt (now (run .entry)) unknownsAt) (now (run .entry)) c a b)) ⌝ }
 {
-    let q = choices::choose(run, c as usize, a as usize, b as usize);
+    let s = layout::load_store(run, c as usize);
+    let q = choices::choose(run, s, c as usize, a as usize, b as usize);
     if let Choice::Waits = q {
         return StepReply {
             number: STILL_WAITS,
@@ -126,7 +145,7 @@ fn take_statement(run: &mut [u8], place: usize, c: u8, a: u8, b: u8) -> StepRepl
             rule: 0,
         };
     }
-    let rule = carry_out(run, place, c, a, b, q);
+    let rule = carry_out(run, s, place, c, a, b, q);
     StepReply { number: 0, rule }
 }
 
@@ -155,7 +174,9 @@ fn take_news(run: &mut [u8], place: usize, c: u8, x: u8, u: u8) -> StepReply
     requires { ⌜ Fits (now run) place 0 × (c < mostCabinets) × (x < mostUnknowns) ⌝ }
     ensures { λ r. ⌜ out (r .number) (r .rule) (now (run .exit)) ≡ performedBytes (now (run .entry)) place (plan 10 [] (mark c x u)) ⌝ }
 {
-    effects::arrive_at(run, place, c, x, u);
+    let s = layout::load_store(run, c as usize);
+    let t = effects::arrive(run, s, place, x, u);
+    layout::save_store(run, c as usize, t);
     StepReply {
         number: 0,
         rule: 10,
@@ -204,7 +225,8 @@ fn statement_waits(run: &[u8], c: u8, a: u8, b: u8) -> bool
     requires { ⌜ StatementIn (now run) c a b ⌝ }
     ensures { λ t. ⌜ t ≡ waitsIn (planOfChoice (now (run .entry)) c a b (choiceOf (byteAt (now (run .entry)) unknownsAt) (now (run .entry)) c a b)) ⌝ }
 {
-    let q = choices::choose(run, c as usize, a as usize, b as usize);
+    let s = layout::load_store(run, c as usize);
+    let q = choices::choose(run, s, c as usize, a as usize, b as usize);
     if let Choice::Waits = q {
         return true;
     }

@@ -1,11 +1,8 @@
--- `by_mark` meets its contract: a law for each answer, from the mark as it stands in the store that was copied out.
+-- `by_mark` meets its contract: a law for each answer, from the mark as it stands in the store that was given.
 use Rattle.choices.proofs.ChoiceLaws.{mark-nothing, mark-initiated, mark-met, mark-entry}
 use borrow.Author.Needs.{needs}
 use Rattle.choices.proofs.by_mark.Statement.{statement}
 use Rattle.choices.proofs.by_mark.Tie as tie
-
-load-store-requires : tie.Need-load-store-requires
-load-store-requires c κs = search needs
 
 element-copy-out-m : tie.Need-element-copy-out-m
 element-copy-out-m c = search needs
@@ -29,7 +26,6 @@ pub by-mark-spec : {M : Type 1} → statement M
 by-mark-spec =
     tie.close
     (tie.spec
-    load-store-requires
     element-copy-out-m
     returns
     returns-2

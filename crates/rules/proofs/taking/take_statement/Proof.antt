@@ -5,6 +5,9 @@ use borrow.Author.Needs.{needs}
 use Rattle.rules.proofs.taking.take_statement.Statement.{statement}
 use Rattle.rules.proofs.taking.take_statement.Tie as tie
 
+load-store-requires : tie.Need-load-store-requires
+load-store-requires c κs = search needs
+
 choose-requires : tie.Need-choose-requires
 choose-requires c κs = search needs
 
@@ -18,7 +21,9 @@ returns : tie.Need-returns
 returns c = search statement-waits
 
 products-requires : tie.Need-products-requires
-products-requires c κs = (search needs, search needs, search needs, search decompose-left)
+products-requires c κs =
+    let q = c .before .before .choose .ensures in
+    (search needs, search needs, search needs, search (decompose-left, q))
 
 full-requires : tie.Need-full-requires
 full-requires c κs = search needs
@@ -36,8 +41,8 @@ carry-out-requires c κs =
     let q = c .before .before .before .before .before .before .before .choose .ensures in
     let n = c .before .before .before .before .products .ensures in
     let h = c .before .before .full .ensures in
-    let fits = c .before .before .before .before .before .before .before .before .before .before .pre .1 in
-    (search needs, statement-fits _ _ _ _ _ _ q (c .before .before .before .before .before .before .match .keys2) _ n _ h (c .before .if1 .left) fits, search needs)
+    let fits = c .before .before .before .before .before .before .before .before .before .before .before .before .pre .1 in
+    (search needs, statement-fits _ _ _ _ _ _ q (c .before .before .before .before .before .before .match .keys2) _ n _ h (c .before .if1 .left) fits, q, search needs)
 
 same-length-3 : tie.Need-same-length-3
 same-length-3 c = search needs
@@ -49,6 +54,7 @@ pub take-statement-spec : {M : Type 1} → statement M
 take-statement-spec =
     tie.close
     (tie.spec
+    load-store-requires
     choose-requires
     enum-told
     same-length
