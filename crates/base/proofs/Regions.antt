@@ -1,12 +1,12 @@
 -- Laws of regions: lengths, what stands at each index, a loop that moves, copies out or copies in, and put against get.
-use Prim.Native.Nat.{ℕ, zero, suc, _+_, _-_, _*_, _≤_, _<_}
+use Prim.Native.Nat.{ℕ, suc, _+_, _-_, _≤_, _<_}
 use mathlib.Core.Path.{_≡_, refl, sym, ap, subst, _∙_}
-use mathlib.Core.Logic.{_⊎_, inl, inr, ⊎-elim}
+use mathlib.Core.Logic.{_⊎_, inl, inr}
 use mathlib.Core.List.{List, [], _∷_, _++_, append-nil}
 use lib.ListN.{length, getD, take, drop, set, length-append, length-take, length-drop, length-set, List·getD-append, drop-of-length-le, replicate, length-replicate, getD-replicate}
-use lib.Seq.{length-take-le, getD-take, getD-drop, getD-append-add, sets, sets-eq, ext-getD, getD-set-same, getD-set-other, paste, paste-zero, paste-suc, take-suc, take-all}
+use lib.Seq.{length-take-le, getD-take, getD-drop, getD-append-add, sets-eq, ext-getD, getD-set-same, getD-set-other, paste, paste-zero, paste-suc, take-all}
 use native.Mathlib.Numerals.{add-one, towards-suc}
-use native.Mathlib.Nat.{add-zero, zero-add, add-assoc, add-sub-of-le, sub-self}
+use native.Mathlib.Nat.{zero-add, add-sub-of-le, sub-self}
 use native.Mathlib.Decide.{decLt, ℕ-discrete}
 use native.Mathlib.Omega.{arith}
 use Rattle.base.specs.Regions.{put, get, shifted, gone}

@@ -1,24 +1,24 @@
 -- The drawn run on the bytes of a sound run views as the paper's drawn run, and leaves the bytes sound.
-use mathlib.Core.Path.{_≡_, refl, sym, subst, ap, ap₂, _∙_}
+use mathlib.Core.Path.{_≡_, refl, sym, ap, ap₂, _∙_}
 use mathlib.Core.Bool.{Bool, true, false, not}
-use mathlib.Core.List.{List, [], _∷_}
-use mathlib.Core.Option.{Option, none, some}
+use mathlib.Core.List.{List}
+use mathlib.Core.Option.{none}
 use Prim.Native.Nat.{ℕ, zero, suc, _+_, _-_, _≤_, _<_}
 use native.Mathlib.Nat.{mod-lt, le-of-lt}
 use native.Mathlib.Omega.{arith}
-use borrow.Author.Tests.{eqb-true, eqb-false, ltb-true, ltb-false}
+use borrow.Author.Tests.{eqb-true, eqb-false}
 use lib.Dec.{ltb, eqb}
-use lib.ListN.{length, getElem?}
+use lib.ListN.{length}
 use Rattle.base.specs.Choice.{pick, firstOf}
-use Rattle.base.proofs.Firsts.{first-same, first-within}
+use Rattle.base.proofs.Firsts.{first-same}
 use Rattle.base.proofs.Froms.{from-length}
 use Rattle.paper.specs.Tables.{Table}
-use Rattle.paper.specs.Runs.{State, Run, Sound}
-use Rattle.paper.specs.Steps.{effect, isWaiting, itemWaits, waitsAt, Outcome, refused, done, step}
-use Rattle.paper.specs.Programs.{nextState, drawnPlace, isReady, readyPlace, chosen, Drawn, noMore, takenFirst, drawn}
+use Rattle.paper.specs.Runs.{Run}
+use Rattle.paper.specs.Steps.{effect, isWaiting, itemWaits, waitsAt, step}
+use Rattle.paper.specs.Programs.{nextState, drawnPlace, isReady, readyPlace, chosen, takenFirst, drawn}
 use Rattle.paper.specs.declared.Item.{Item}
 use Rattle.paper.proofs.StepIsRule.{rule-effect, waiting-effect}
-use Rattle.layout.specs.Offsets.{clashAt, clashCabinetAt}
+use Rattle.layout.specs.Offsets.{clashAt}
 use Rattle.layout.specs.Fields.{byteAt, countOf, itemAt, tableOf, stateOf, runOf}
 use Rattle.rules.specs.Plans.{Plan, wait, plan, planOf}
 use Rattle.rules.specs.Bytes.{Out, out, takenBytes}

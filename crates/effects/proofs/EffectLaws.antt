@@ -10,16 +10,16 @@ use lib.ListN.{length, getD, set, length-set}
 use lib.Seq.{getD-set-other}
 use borrow.Author.Tests.{le-ltb, lt-ltb}
 use Rattle.base.specs.Choice.{pick}
-use Rattle.base.specs.Regions.{put, get, gone}
+use Rattle.base.specs.Regions.{put, gone}
 use Rattle.base.proofs.Froms.{from-same, from-getD}
-use Rattle.base.proofs.Regions.{length-put, put-before, length-get, length-gone}
-use Rattle.paper.specs.Sizes.{mostCabinets, mostUnknowns, mostParts, room}
+use Rattle.base.proofs.Regions.{put-before, length-gone}
+use Rattle.paper.specs.Sizes.{mostParts, room}
 use Rattle.paper.specs.Rules.{partStatements, newsTo}
 use Rattle.paper.specs.declared.Item.{Item}
 use Rattle.paper.specs.declared.Item.the-variants.{Statement, News}
-use Rattle.layout.specs.Offsets.{itemBytes, unknownsAt, ownersAt, runBytes, storeFrom, memoFrom, itemFrom}
+use Rattle.layout.specs.Offsets.{itemBytes, unknownsAt, ownersAt, runBytes, memoFrom, itemFrom}
 use Rattle.layout.specs.Fields.{byteAt, countOf, partOf, partsFrom}
-use Rattle.layout.specs.Changes.{removedAt, appended, appendedAll, storeOf, withStore, withOwner, withPair, withClash}
+use Rattle.layout.specs.Changes.{removedAt, appended, appendedAll, withOwner, withPair, withClash}
 use Rattle.layout.specs.Given.{Reads, byteLimit}
 use Rattle.layout.proofs.Views.{length-count, count-is, appended-long, appended-count}
 use Rattle.effects.specs.Changes.{nothing, mark, pair, applied}

@@ -1,22 +1,22 @@
 -- Each change of the bytes leaves the bytes of no meaning as they are said to be.
-use mathlib.Core.Path.{_≡_, refl, sym, subst, ap, _∙_}
-use mathlib.Core.Logic.{_⊎_, inl, inr, ⊎-elim, _≢_}
+use mathlib.Core.Path.{_≡_, sym, subst, ap, _∙_}
+use mathlib.Core.Logic.{_⊎_, inl, inr, ⊎-elim}
 use mathlib.Core.List.{List, [], _∷_}
-use Prim.Native.Nat.{ℕ, zero, suc, _+_, _-_, _*_, _≤_, _<_}
+use Prim.Native.Nat.{ℕ, suc, _+_, _-_, _*_, _≤_, _<_}
 use native.Mathlib.Decide.{ℕ-discrete}
 use native.Mathlib.Omega.{arith}
-use lib.ListN.{length, getD, set, length-set}
+use lib.ListN.{length, getD, set}
 use lib.Seq.{getD-set-same, getD-set-other}
-use Rattle.base.specs.Regions.{put, gone}
+use Rattle.base.specs.Regions.{gone}
 use Rattle.base.proofs.Regions.{lt-or-le, put-after, gone-before, gone-in, gone-freed, gone-after}
 use Rattle.paper.specs.Sizes.{mostCabinets, mostUnknowns, mostRecords, mostParts, room}
 use Rattle.paper.specs.declared.Item.{Item}
 use Rattle.paper.specs.declared.Item.the-variants.{Statement as statement, Ask as ask, News as news}
-use Rattle.layout.specs.Offsets.{symbolBytes, recordBytes, itemBytes, clashAt, clashCabinetAt, cabinetsAt, recordsAt, countAt, tableAt, ownersAt, memosAt, pendingAt, runBytes, recordFrom, storeFrom, memoFrom, itemFrom}
+use Rattle.layout.specs.Offsets.{symbolBytes, itemBytes, clashAt, clashCabinetAt, cabinetsAt, recordsAt, countAt, tableAt, ownersAt, memosAt, pendingAt, runBytes, recordFrom, storeFrom, memoFrom, itemFrom}
 use Rattle.layout.specs.Fields.{byteAt, countOf, partCountOf, partOf}
 use Rattle.layout.specs.Changes.{bytesOfItem, removedAt, appended, appendedAll, storeOf, withStore, withOwner, withPair, withClash}
 use Rattle.layout.proofs.Frames.{Same, Shaped, count-same}
-use Rattle.layout.proofs.Views.{count-after, removed-low, removed-mid, removed-count, late, closed, fits, ends, appended-low, appended-mid, appended-in, appended-count, appended-shaped, written, written-long, room-left, item-long, set-other, stored-is-set, clash-twice, clash-long, clash-byte}
+use Rattle.layout.proofs.Views.{count-after, removed-low, removed-mid, removed-count, late, closed, fits, ends, appended-low, appended-mid, appended-in, appended-count, appended-shaped, written, written-long, room-left, item-long, set-other, stored-is-set, clash-twice, clash-byte}
 use Rattle.layout.proofs.Canonical.{Canonical}
 
 -- a change of the pending items: bytes 0 to 5 and 8 up to the pending items stay

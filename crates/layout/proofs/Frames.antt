@@ -1,9 +1,9 @@
 -- Each field of a run reads its own region: where a region's bytes are as they were, so is the field.
-use mathlib.Core.Path.{_≡_, refl, sym, subst, ap, ap₂, _∙_, fun-ext}
+use mathlib.Core.Path.{_≡_, refl, subst, ap, ap₂, fun-ext}
 use mathlib.Core.Bool.{Bool, true, false, _&&_}
-use mathlib.Core.List.{List, [], _∷_}
-use mathlib.Core.Option.{Option, none, some}
-use Prim.Native.Nat.{ℕ, zero, suc, _+_, _*_, _≤_, _<_}
+use mathlib.Core.List.{List}
+use mathlib.Core.Option.{none, some}
+use Prim.Native.Nat.{ℕ, _+_, _*_, _≤_, _<_}
 use native.Mathlib.Omega.{arith}
 use borrow.Author.Tests.{ltb-true}
 use lib.Dec.{ltb, eqb}
@@ -14,11 +14,9 @@ use Rattle.base.proofs.Tests.{fst-true, snd-true}
 use Rattle.base.proofs.Froms.{from-same}
 use Rattle.base.proofs.Regions.{get-same}
 use Rattle.paper.specs.Sizes.{mostCabinets, mostUnknowns, mostRecords, mostParts, room}
-use Rattle.paper.specs.Tables.{Record, Table}
-use Rattle.paper.specs.Runs.{Mark, nothing, State, Run}
-use Rattle.paper.specs.declared.Item.{Item}
+use Rattle.paper.specs.Runs.{nothing}
 use Rattle.layout.specs.Offsets.{symbolBytes, itemBytes, clashAt, clashCabinetAt, cabinetsAt, unknownsAt, recordsAt, statementsAt, countAt, tableAt, ownersAt, storesAt, memosAt, pendingAt, runBytes, recordFrom, storeFrom, memoFrom, itemFrom}
-use Rattle.layout.specs.Fields.{byteAt, valueOf, clashOf, countOf, symbolOf, partCountOf, partOf, partsFrom, recordOf, recordsFrom, ownerMark, storeMark, ownerOf, markOf, pairOf, itemOfBytes, itemAt, itemsFrom, tableOf, stateOf, runOf}
+use Rattle.layout.specs.Fields.{byteAt, valueOf, clashOf, countOf, symbolOf, partCountOf, partOf, partsFrom, recordOf, recordsFrom, ownerMark, storeMark, ownerOf, markOf, pairOf, itemAt, itemsFrom, tableOf}
 
 -- the bytes from lo up to hi are as they were
 abbrev pub Same : ℕ → ℕ → List ℕ → List ℕ → Type 0

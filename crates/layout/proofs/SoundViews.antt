@@ -1,29 +1,27 @@
 -- Bytes are sound exactly when their view is a sound run and the bytes of no meaning are as said.
-use mathlib.Core.Path.{_≡_, refl, sym, subst, ap, _∙_}
+use mathlib.Core.Path.{_≡_, refl, subst, ap}
 use mathlib.Core.Logic.{_⊎_, inl, inr, ⊎-elim}
 use mathlib.Core.Bool.{Bool, true, false, _&&_, _||_}
 use mathlib.Core.List.{List, [], _∷_}
-use mathlib.Core.Option.{Option, none, some}
-use Prim.Native.Nat.{ℕ, zero, suc, _+_, _-_, _*_, _/_, _%_, _^_, _≤_, _<_}
+use mathlib.Core.Option.{none, some}
+use Prim.Native.Nat.{ℕ, suc, _+_, _-_, _*_, _/_, _%_, _^_, _≤_, _<_}
 use native.Mathlib.Nat.{pow-suc}
 use native.Mathlib.Omega.{arith}
-use borrow.Author.Tests.{ltb-true, ltb-false, leb-true, eqb-true, eqb-false, lt-ltb, le-ltb, le-leb, eq-eqb, ne-eqb}
+use borrow.Author.Tests.{ltb-true, ltb-false, leb-true, eqb-true, eqb-false, lt-ltb, le-ltb, le-leb, eq-eqb}
 use lib.Dec.{ltb, leb, eqb}
 use lib.ListN.{length, getD, List·getD-eq-default}
 use Rattle.base.specs.Choice.{pick, allBelow}
-use Rattle.base.specs.Lists.{All}
 use Rattle.base.specs.Regions.{get}
 use Rattle.base.proofs.Tests.{fst-true, snd-true, and-true, not-both}
 use Rattle.base.proofs.Froms.{from-length, from-all, all-from}
 use Rattle.base.proofs.Ranges.{below-each, each-below}
 use Rattle.base.proofs.Regions.{length-get, get-at}
 use Rattle.paper.specs.Sizes.{mostCabinets, mostUnknowns, mostRecords, mostStatements, mostParts, room, numberLimit}
-use Rattle.paper.specs.Tables.{Record, Table, RecordOk, TableOk, entries, isUnknown, isRecord, less}
-use Rattle.paper.specs.Runs.{Mark, nothing, initiated, entry, State, Run, Lesser, ItemOk, OwnerOk, MarkOk, MemoOk, ClashOk, StateOk, Sound}
-use Rattle.paper.specs.declared.Item.{Item}
+use Rattle.paper.specs.Tables.{Table, RecordOk, TableOk, entries, less}
+use Rattle.paper.specs.Runs.{nothing, initiated, entry, Lesser, ItemOk, OwnerOk, MarkOk, MemoOk, ClashOk, Sound}
 use Rattle.paper.specs.declared.Item.the-variants.{Statement as statement, Ask as ask, News as news}
 use Rattle.layout.specs.Offsets.{symbolBytes, recordBytes, itemBytes, clashAt, clashCabinetAt, cabinetsAt, unknownsAt, recordsAt, statementsAt, ownersAt, pendingAt, runBytes, recordFrom, storeFrom, memoFrom, itemFrom}
-use Rattle.layout.specs.Fields.{byteAt, valueOf, clashOf, countOf, symbolOf, partCountOf, partOf, partsFrom, recordOf, recordsFrom, ownerMark, storeMark, ownerOf, markOf, pairOf, itemOfBytes, itemAt, itemsFrom, tableOf, stateOf, runOf}
+use Rattle.layout.specs.Fields.{byteAt, valueOf, clashOf, countOf, symbolOf, partCountOf, partOf, recordOf, ownerMark, storeMark, ownerOf, markOf, pairOf, itemOfBytes, itemAt, tableOf, stateOf, runOf}
 use Rattle.layout.specs.Soundness.{zerosAt, lesser, clashOk, sizesOk, partsOk, recordOk, recordsOk, ownerOk, ownersOk, markOk, storeOk, storesOk, pairOk, memoRowOk, memoOk, memosOk, itemOk, placeOk, itemsOk, regionsOk, soundBytes}
 use Rattle.layout.proofs.Frames.{Shaped}
 use Rattle.layout.proofs.Canonical.{Canonical}

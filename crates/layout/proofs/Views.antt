@@ -3,27 +3,26 @@ use mathlib.Core.Path.{_≡_, refl, sym, subst, ap, ap₂, _∙_, fun-ext}
 use mathlib.Core.Logic.{_⊎_, inl, inr, ⊎-elim, _≢_}
 use mathlib.Core.Bool.{Bool, true, false, _&&_}
 use mathlib.Core.List.{List, [], _∷_, _++_, append-nil, append-assoc}
-use mathlib.Core.Option.{Option, none, some}
+use mathlib.Core.Option.{none, some}
 use Prim.Native.Nat.{ℕ, zero, suc, _+_, _-_, _*_, _/_, _%_, _≤_, _<_}
 use native.Mathlib.Omega.{arith}
 use borrow.Author.Tests.{ltb-true, lt-ltb}
 use lib.Dec.{ltb, eqb}
-use lib.ListN.{length, getD, set, length-set, replicate}
+use lib.ListN.{length, getD, set, length-set}
 use lib.Seq.{getD-set-same, getD-set-other}
 use Rattle.base.specs.Choice.{pick, upd}
 use Rattle.base.specs.Lists.{without}
-use Rattle.base.specs.Regions.{put, get, gone}
+use Rattle.base.specs.Regions.{put, gone}
 use Rattle.base.proofs.Tests.{fst-true, snd-true, and-true}
 use Rattle.base.proofs.Changes.{upd-is}
 use Rattle.base.proofs.Froms.{from-without, from-last}
 use Rattle.base.proofs.Regions.{length-put, put-before, put-in, put-after, put-set, length-gone, gone-before, gone-in}
-use Rattle.paper.specs.Sizes.{mostCabinets, mostUnknowns, mostRecords, mostParts, room}
-use Rattle.paper.specs.Tables.{Record, Table}
-use Rattle.paper.specs.Runs.{Mark, nothing, State, Run}
+use Rattle.paper.specs.Sizes.{mostCabinets, mostUnknowns, room}
+use Rattle.paper.specs.Runs.{nothing, State, Run}
 use Rattle.paper.specs.Rules as rules
 use Rattle.paper.specs.declared.Item.{Item}
 use Rattle.paper.specs.declared.Item.the-variants.{Statement as statement, Ask as ask, News as news}
-use Rattle.layout.specs.Offsets.{symbolBytes, itemBytes, clashAt, clashCabinetAt, cabinetsAt, unknownsAt, recordsAt, statementsAt, countAt, tableAt, ownersAt, storesAt, memosAt, pendingAt, runBytes, recordFrom, storeFrom, memoFrom, itemFrom}
+use Rattle.layout.specs.Offsets.{itemBytes, clashAt, clashCabinetAt, cabinetsAt, statementsAt, countAt, tableAt, ownersAt, storesAt, memosAt, pendingAt, runBytes, storeFrom, memoFrom, itemFrom}
 use Rattle.layout.specs.Fields.{byteAt, bytesOf, clashOf, countOf, ownerMark, storeMark, ownerOf, markOf, pairOf, itemOfBytes, itemAt, itemsFrom, tableOf, stateOf, runOf}
 use Rattle.layout.specs.Changes.{withCount, bytesOfItem, removedAt, appended, appendedAll, storeOf, withStore, withOwner, withPair, withClash}
 use Rattle.layout.proofs.Frames.{Same, Shaped, clash-same, count-same, owners-same, stores-same, memos-same, item-same, items-same, table-same, shape-same}

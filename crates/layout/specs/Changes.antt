@@ -1,13 +1,13 @@
 -- What the calls do to a run's bytes, by name: the byte definitions of which loading and the ten rules are made.
 use mathlib.Core.List.{List, [], _∷_, _++_}
-use Prim.Native.Nat.{ℕ, zero, suc, _+_, _-_, _*_}
+use Prim.Native.Nat.{ℕ, suc, _+_, _-_, _*_}
 use lib.ListN.{length, set, replicate}
 use Rattle.base.specs.Regions.{put, get, gone}
-use Rattle.paper.specs.Sizes.{mostCabinets, mostUnknowns, mostParts, room}
+use Rattle.paper.specs.Sizes.{mostUnknowns}
 use Rattle.paper.specs.Tables.{Record}
 use Rattle.paper.specs.declared.Item.{Item}
 use Rattle.paper.specs.declared.Item.the-variants.{Statement as statement, Ask as ask, News as news}
-use Rattle.layout.specs.Offsets.{symbolBytes, itemBytes, clashAt, clashCabinetAt, cabinetsAt, countAt, tableAt, ownersAt, storesAt, memosAt, pendingAt, runBytes, recordFrom, storeFrom, memoFrom, itemFrom}
+use Rattle.layout.specs.Offsets.{symbolBytes, itemBytes, clashAt, clashCabinetAt, cabinetsAt, countAt, ownersAt, memosAt, runBytes, recordFrom, storeFrom, memoFrom, itemFrom}
 use Rattle.layout.specs.Fields.{bytesOf, countOf}
 
 -- the pending count

@@ -1,5 +1,5 @@
 -- The map's 352 bytes, from the paper's rows.
-use mathlib.Core.List.{List, [], _∷_, _++_}
+use mathlib.Core.List.{List, _∷_, _++_}
 use Prim.Native.Nat.{ℕ, _-_, _*_}
 use lib.ListN.{length, replicate}
 use Rattle.paper.specs.Sizes.{mostParts}

@@ -1,5 +1,5 @@
 -- When a run's 59,752 bytes are sound: a test for each region of document 01's table, unused bytes included.
-use mathlib.Core.Bool.{Bool, true, false, _&&_, _||_}
+use mathlib.Core.Bool.{Bool, _&&_, _||_}
 use mathlib.Core.List.{List}
 use Prim.Native.Nat.{ℕ, _+_}
 use lib.Dec.{ltb, leb, eqb}

@@ -1,6 +1,6 @@
 -- Laws of the map program: one for each way out of `print`, and what its callees ask.
 use mathlib.Core.Path.{_≡_, refl, sym, ap, subst, _∙_}
-use mathlib.Core.Logic.{_⊎_, inl, inr, ⊎-elim}
+use mathlib.Core.Logic.{inl, inr}
 use mathlib.Core.Bool.{true}
 use mathlib.Core.List.{List}
 use mathlib.Core.Option.{none, some}
@@ -14,7 +14,7 @@ use Rattle.paper.specs.Sizes.{mostUnknowns}
 use Rattle.paper.specs.Tables.{Table, TableOk}
 use Rattle.paper.specs.Files.{File, Read, got, fault, readFile}
 use Rattle.paper.specs.Reached.{FileOk}
-use Rattle.paper.specs.Programs.{printedMap, printedClash, printedRefusal, printedRun, printedRead, printed}
+use Rattle.paper.specs.Programs.{printedClash, printedRefusal, printedRun, printedRead, printed}
 use Rattle.layout.specs.Offsets.{clashAt, clashCabinetAt, unknownsAt, runBytes, mapBytes}
 use Rattle.layout.specs.Given.{Reads, byteLimit}
 use Rattle.layout.specs.Fields.{byteAt, clashOf, countOf, tableOf, runOf}
@@ -22,15 +22,15 @@ use Rattle.layout.specs.Soundness.{soundBytes}
 use Rattle.layout.specs.MapRows.{mapOf}
 use Rattle.layout.proofs.SoundViews.{tested, in-range, view-sound}
 use Rattle.statements.specs.Loads.{loadedBytes}
-use Rattle.statements.specs.Writes.{Answer, answer, loadedRead, loadBytes}
-use Rattle.statements.proofs.Loaded.{loaded-as, loaded-bytes-sound}
+use Rattle.statements.specs.Writes.{answer, loadedRead, loadBytes}
+use Rattle.statements.proofs.Loaded.{loaded-bytes-sound}
 use Rattle.rules.proofs.Bridge.{ready-sound}
-use Rattle.maps.specs.Bytes.{Mapped, mapped, drawnMap, mapBytesOf}
+use Rattle.maps.specs.Bytes.{mapped, drawnMap, mapBytesOf}
 use Rattle.drawing.specs.Draws.{drawnBytes}
 use Rattle.layout.specs.Puts.{PutFrom}
 use Rattle.printing.specs.Prints.{mapPrinted}
 use Rattle.printing.proofs.MapText.{map-printed}
-use Rattle.promises.specs.FromFiles.{Accepted, FromFile, HasClashed, NothingPending, AtEnd}
+use Rattle.promises.specs.FromFiles.{Accepted, AtEnd}
 use Rattle.promises.specs.Sentences.{ProgramEnds}
 use Rattle.promises.proofs.Reaching.{Viewed, viewed, file-ok}
 use Rattle.promises.proofs.Sentences.{sentences}

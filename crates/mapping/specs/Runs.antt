@@ -3,9 +3,7 @@ use mathlib.Core.Path.{_≡_}
 use mathlib.Core.Bool.{true}
 use mathlib.Core.List.{List}
 use Prim.Native.Nat.{ℕ}
-use lib.ListN.{length}
 use Rattle.paper.specs.Programs.{printedRefusal, printedRun, printed}
-use Rattle.layout.specs.Offsets.{runBytes}
 use Rattle.layout.specs.Fields.{tableOf, runOf, clashOf}
 use Rattle.layout.specs.Soundness.{soundBytes}
 use Rattle.promises.specs.FromFiles.{AtEnd}

@@ -11,7 +11,7 @@ use native.Mathlib.Omega.{arith}
 use borrow.Author.Tests.{lt-ltb, le-ltb}
 use Rattle.base.specs.Choice.{pick}
 use Rattle.base.specs.Regions.{put}
-use Rattle.paper.specs.Sizes.{mostGroups, numberLimit}
+use Rattle.paper.specs.Sizes.{numberLimit}
 use Rattle.paper.specs.Numbers.{groupsOf, numberBytes}
 use Rattle.numbers.specs.Written.{Written}
 use Rattle.numbers.proofs.Limits.{limit}

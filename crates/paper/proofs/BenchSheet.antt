@@ -1,8 +1,8 @@
 -- The definitions give what document 01's bench sheet says, line by line, and what our own two lists say.
 use mathlib.Core.Path.{_≡_, refl}
-use mathlib.Core.List.{List, map}
+use mathlib.Core.List.{map}
 use Prim.Native.Nat.{ℕ}
-use Rattle.paper.specs.Vectors.{Vector, answerOf, benchSheet, ownSheet, replySheet}
+use Rattle.paper.specs.Vectors.{answerOf, benchSheet, ownSheet, replySheet}
 
 -- "proved of the definitions, as a single statement over one list"
 pub bench-sheet : map (λ v. answerOf (v .question)) benchSheet ≡ map (λ v. v .answer) benchSheet

@@ -11,13 +11,13 @@ use borrow.Author.Tests.{eq-eqb, ne-eqb}
 use lib.Dec.{eqb}
 use lib.ListN.{getElem?}
 use Rattle.base.specs.Choice.{pick, upd}
-use Rattle.base.specs.Lists.{without, All, total, sum, Member, here, there}
+use Rattle.base.specs.Lists.{without, All, total, sum, Member, here}
 use Rattle.base.proofs.Changes.{upd-same, upd-other, upd-all, upd-else}
 use Rattle.base.proofs.Sums.{sum-same, sum-add, sum-const, sum-zero, sum-one}
-use Rattle.base.proofs.Elements.{total-append, total-without, all-append, all-map, all-without, all-at, all-member, member-left, member-right, member-cons, member-front}
+use Rattle.base.proofs.Elements.{total-append, total-without, all-append, all-map, all-without, all-at, member-left, member-right, member-cons, member-front}
 use Rattle.paper.specs.Tables.{Table, isUnknown, recordAt}
-use Rattle.paper.specs.Runs.{Mark, nothing, initiated, entry, Statement, State, Run, asItem, initial, ItemOk, StateOk, Sound}
-use Rattle.paper.specs.Rules.{withClash, withOwner, withMark, withPair, add, partStatements, newsTo, Rule, interchange, memo, dereference, identify, conflict, decompose, initiate, win, lose, arrive}
+use Rattle.paper.specs.Runs.{Mark, nothing, initiated, entry, Statement, State, Run, asItem, initial, ItemOk}
+use Rattle.paper.specs.Rules.{withClash, withOwner, withMark, withPair, partStatements, newsTo, Rule, interchange, memo, dereference, identify, conflict, decompose, initiate, win, lose, arrive}
 use Rattle.paper.specs.Reached.{FileOk, Reached}
 use Rattle.paper.specs.Counts.{told, holds, newsOf}
 use Rattle.paper.specs.declared.Item.{Item}

@@ -18,10 +18,10 @@ use Rattle.base.proofs.Tests.{true-T}
 use Rattle.base.proofs.Firsts.{first-within, first-passes, first-before}
 use Rattle.base.proofs.Elements.{place-some, some-place}
 use Rattle.paper.specs.Tables.{Table}
-use Rattle.paper.specs.Runs.{Statement, State, Run, initial}
+use Rattle.paper.specs.Runs.{Statement, Run, initial}
 use Rattle.paper.specs.Rules.{Waits}
 use Rattle.paper.specs.Steps.{Effect, itWaits, takes, effect, isWaiting, itemWaits, waitsAt, performed, Outcome, refused, done, step}
-use Rattle.paper.specs.Reached.{FileOk, Reached, loaded, stepped, Along, none-left, one-more, Clashed, Finished, Over}
+use Rattle.paper.specs.Reached.{FileOk, Reached, loaded, stepped, Along, none-left, one-more, Over}
 use Rattle.paper.specs.Files.{File}
 use Rattle.paper.specs.Counts.{mostSteps}
 use Rattle.paper.specs.Programs.{firstState, nextState, drawnPlace, isReady, readyPlace, chosen, Drawn, noMore, takenFirst, drawn, drawnFile, drawnRun}

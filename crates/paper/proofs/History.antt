@@ -1,11 +1,11 @@
 -- What holds of every reached run that has not clashed. Nothing false: all that is held is alike. Nothing lost: every pair that
 -- was ever a pending statement is pending or settled.
-use mathlib.Core.Path.{_≡_, refl, sym, subst, ap, _∙_}
+use mathlib.Core.Path.{_≡_, refl, sym, subst}
 use mathlib.Core.Logic.{_⊎_, inl, inr, ⊎-elim}
 use mathlib.Core.Bool.{Bool, true, false}
 use mathlib.Core.List.{List, [], _∷_, _++_, map}
 use mathlib.Core.Option.{Option, none, some}
-use Prim.Native.Nat.{ℕ, zero, suc, _<_}
+use Prim.Native.Nat.{ℕ, zero, suc}
 use native.Mathlib.Omega.{arith}
 use lib.ListN.{getElem?}
 use Rattle.base.specs.Choice.{pick, upd}
@@ -13,13 +13,13 @@ use Rattle.base.specs.Lists.{without, All, Member, here, there, Zip, z-here, z-
 use Rattle.base.proofs.Changes.{upd-all}
 use Rattle.base.proofs.Elements.{all-append, all-without, all-at, member-left, member-right, member-cons, member-front, member-map}
 use Rattle.paper.specs.Tables.{Table, isUnknown, isRecord, recordAt, less, sameHead}
-use Rattle.paper.specs.Runs.{Mark, entry, Statement, State, Run, asItem, initial, MemoOk, StateOk, ItemOk}
-use Rattle.paper.specs.Rules.{withClash, withOwner, withMark, withPair, Mem, add, partStatements, newsTo, Rule, interchange, memo, dereference, identify, conflict, decompose, initiate, win, lose, arrive}
+use Rattle.paper.specs.Runs.{entry, Statement, State, Run, asItem, initial, MemoOk, StateOk, ItemOk}
+use Rattle.paper.specs.Rules.{withClash, withOwner, withMark, withPair, Mem, partStatements, newsTo, Rule, interchange, memo, dereference, identify, conflict, decompose, initiate, win, lose, arrive}
 use Rattle.paper.specs.Reached.{FileOk, Reached}
-use Rattle.paper.specs.Alike.{Stated, stated, Alike, given, self, back, via, part, Clash}
+use Rattle.paper.specs.Alike.{Stated, stated, Alike, given, back, via, part, Clash}
 use Rattle.paper.specs.declared.Item.{Item}
 use Rattle.paper.specs.declared.Item.the-variants.{Statement as statement, Ask as ask, News as news}
-use Rattle.paper.proofs.Ranks.{rank, rank-unknown, less-rank}
+use Rattle.paper.proofs.Ranks.{rank-unknown, less-rank}
 use Rattle.paper.proofs.Soundness.{reached-keeps}
 use Rattle.paper.proofs.Bindings.{owner-stays, Bound, bound-start, bound-front, bound-kept}
 use Rattle.paper.proofs.Settled.{Settled, swapped, same, dereferenced, decomposed}

@@ -1,14 +1,14 @@
 -- A list of places does exactly its first n places, n being the number it gives, and stops at the first refused one.
-use mathlib.Core.Path.{_≡_, refl, sym, subst, ap, _∙_}
+use mathlib.Core.Path.{_≡_, refl, sym, ap, _∙_}
 use mathlib.Core.Logic.{_↔_}
 use mathlib.Core.List.{List, [], _∷_}
-use mathlib.Core.Option.{Option, none, some}
-use Prim.Native.Nat.{ℕ, zero, suc, _+_, _<_}
+use mathlib.Core.Option.{none, some}
+use Prim.Native.Nat.{ℕ, zero, suc, _+_}
 use native.Mathlib.Omega.{arith}
 use lib.ListN.{length, take, getElem?}
 use Rattle.paper.specs.Tables.{Table}
 use Rattle.paper.specs.Runs.{Run}
-use Rattle.paper.specs.Steps.{Outcome, refused, done, step, Listed, listed, steps}
+use Rattle.paper.specs.Steps.{Outcome, refused, done, step, listed, steps}
 use Rattle.paper.specs.Reached.{Along, none-left, one-more, ListEnds, all-done, stops, ListDone}
 
 module _ (t : Table) where

@@ -1,7 +1,7 @@
 -- Locality: a statement's step reads and changes its own cabinet alone.
-use mathlib.Core.Path.{_≡_, refl, sym, subst, ap, ap₂, _∙_}
+use mathlib.Core.Path.{_≡_, refl, sym, ap, ap₂, _∙_}
 use mathlib.Core.Bool.{Bool, true, false}
-use mathlib.Core.List.{List, [], _∷_, _++_}
+use mathlib.Core.List.{List, [], _∷_}
 use mathlib.Core.Option.{Option, none, some}
 use Prim.Native.Nat.{ℕ}
 use lib.ListN.{length, getElem?}
@@ -9,12 +9,11 @@ use Rattle.base.specs.Choice.{pick, upd}
 use Rattle.base.specs.Lists.{without}
 use Rattle.base.proofs.Changes.{upd-same}
 use Rattle.paper.specs.Tables.{Table}
-use Rattle.paper.specs.Runs.{Mark, Statement, State, Run, Sound}
+use Rattle.paper.specs.Runs.{Mark, Statement, State, Run}
 use Rattle.paper.specs.Rules.{after, Carried}
-use Rattle.paper.specs.Steps.{Local, Act, waits, acts, act, Effect, itWaits, takes, local, effect, Outcome, refused, done, performed, step}
+use Rattle.paper.specs.Steps.{Local, Act, waits, acts, act, itWaits, takes, local, effect, Outcome, refused, done, performed, step}
 use Rattle.paper.specs.Reached.{FileOk, Reached}
 use Rattle.paper.specs.Locality.{SameStep, both-refused, both-done}
-use Rattle.paper.specs.declared.Item.{Item}
 use Rattle.paper.specs.declared.Item.the-variants.{Statement as statement}
 use Rattle.paper.proofs.StepIsRule.{effect-rule, step-at, rule-is-done}
 use Rattle.paper.proofs.Soundness.{reached-sound}

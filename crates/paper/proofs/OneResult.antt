@@ -1,19 +1,18 @@
 -- At its end a run from an accepted file has clashed, exactly when its statements clash, or its map is the statements' own;
 -- so two files that say the same end alike, whatever the order of the steps.
-use mathlib.Core.Path.{_≡_, refl, sym, subst, ap, ap₂, _∙_}
+use mathlib.Core.Path.{_≡_, refl, subst, ap, ap₂, _∙_}
 use mathlib.Core.Logic.{_⊎_, inl, inr, ⊎-elim, _↔_}
 use mathlib.Core.List.{List, [], _∷_}
-use mathlib.Core.Option.{Option, none, some}
+use mathlib.Core.Option.{none, some}
 use Prim.Native.Nat.{ℕ, zero, suc}
 use native.Mathlib.Omega.{arith}
 use lib.Dec.{T}
-use Rattle.base.specs.Lists.{Member}
 use Rattle.paper.specs.Tables.{Table}
-use Rattle.paper.specs.Runs.{Statement, State, Run}
+use Rattle.paper.specs.Runs.{Statement, Run}
 use Rattle.paper.specs.Reached.{FileOk, Reached, Clashed, Finished, Over}
-use Rattle.paper.specs.Alike.{Stated, Alike, Clash, Agree}
+use Rattle.paper.specs.Alike.{Alike, Clash, Agree}
 use Rattle.paper.specs.Ends.{agree, endOf}
-use Rattle.paper.specs.Maps.{Row, IsRow, rowOf, mapRow, rowsFrom, mapRows}
+use Rattle.paper.specs.Maps.{Row, IsRow, mapRow, rowsFrom, mapRows}
 use Rattle.paper.specs.SameStatements.{SameItems, SameSet, OneResult, both-clash, same-map}
 use Rattle.paper.specs.declared.Item.{Item}
 use Rattle.paper.proofs.Soundness.{reached-sound}

@@ -1,13 +1,13 @@
 -- A potential over a scale of weights: each rule lowers it by the scale's fee, a fee of 0 meaning that none raises it.
-use mathlib.Core.Path.{_≡_, refl, sym, subst, ap, _∙_}
-use mathlib.Core.Logic.{inl, inr}
+use mathlib.Core.Path.{_≡_, ap, _∙_}
+use mathlib.Core.Logic.{inl}
 use mathlib.Core.Bool.{Bool, true, false}
 use mathlib.Core.List.{List, [], _∷_, _++_, map}
 use mathlib.Core.Option.{Option, none, some}
 use Prim.Native.Nat.{ℕ, zero, suc, _+_, _*_, _≤_, _<_}
 use native.Mathlib.Omega.{arith}
 use native.Mathlib.Nat.{mul-le-mul-right}
-use lib.ListN.{length, length-map, getElem?}
+use lib.ListN.{length, getElem?}
 use Rattle.base.specs.Choice.{pick, upd}
 use Rattle.base.specs.Lists.{without, All, total, sum}
 use Rattle.base.proofs.Tests.{not-true-false}
@@ -15,11 +15,11 @@ use Rattle.base.proofs.Sums.{sum-same, sum-const, sum-mul, sum-upd}
 use Rattle.base.proofs.Elements.{total-append, total-without}
 use Rattle.paper.specs.Tables.{Table, TableOk, isUnknown, isRecord, recordAt, less}
 use Rattle.paper.specs.Runs.{Mark, nothing, initiated, entry, Statement, State, Run, asItem, initial, ItemOk, StateOk, Sound}
-use Rattle.paper.specs.Rules.{withClash, withOwner, withMark, withPair, Mem, add, partStatements, newsTo, Rule, interchange, memo, dereference, identify, conflict, decompose, initiate, win, lose, arrive, Carried}
+use Rattle.paper.specs.Rules.{withClash, withOwner, withMark, withPair, add, partStatements, newsTo, Rule, interchange, memo, dereference, identify, conflict, decompose, initiate, win, lose, arrive, Carried}
 use Rattle.paper.specs.Reached.{FileOk, Reached}
 use Rattle.paper.specs.declared.Item.{Item}
 use Rattle.paper.specs.declared.Item.the-variants.{Statement as statement, Ask as ask, News as news}
-use Rattle.paper.proofs.Ranks.{rank, rank-unknown, less-rank, unknown-is, record-is, Kind, unknown, recorded, kind, is-unknown, not-unknown}
+use Rattle.paper.proofs.Ranks.{rank, rank-unknown, less-rank, record-is, Kind, unknown, recorded, kind, is-unknown, not-unknown}
 use Rattle.paper.proofs.Soundness.{record-ok, less-unknown, store-entry, carried-keeps, reached-keeps}
 
 -- weights, and what they have to meet

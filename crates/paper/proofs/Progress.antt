@@ -1,25 +1,25 @@
 -- Until the end of a run from an accepted file some item can be taken, and every such run can be carried to an end.
-use mathlib.Core.Path.{_≡_, refl, sym, subst, ap, _∙_}
+use mathlib.Core.Path.{_≡_, refl, sym, ap, _∙_}
 use mathlib.Core.Logic.{_⊎_, inl, inr, ⊎-elim, _≢_}
-use mathlib.Core.List.{List, [], _∷_, _++_}
+use mathlib.Core.List.{List, [], _∷_}
 use mathlib.Core.Option.{Option, none, some}
-use Prim.Native.Nat.{ℕ, zero, suc, _+_, _≤_, _<_}
+use Prim.Native.Nat.{ℕ, zero, suc, _+_, _<_}
 use native.Mathlib.Omega.{arith}
 use lib.ListN.{length, getElem?}
 use Rattle.base.specs.Lists.{without, total, Member, here, there}
-use Rattle.base.proofs.Elements.{member-place, all-member}
+use Rattle.base.proofs.Elements.{member-place}
 use Rattle.paper.specs.Tables.{Table}
-use Rattle.paper.specs.Runs.{Mark, initiated, Statement, State, Run, initial, ItemOk}
+use Rattle.paper.specs.Runs.{initiated, Statement, Run, ItemOk}
 use Rattle.paper.specs.Rules.{Waits, waiting, after, Carried}
-use Rattle.paper.specs.Steps.{Outcome, refused, done, step}
-use Rattle.paper.specs.Reached.{FileOk, Reached, loaded, stepped, Later, same, next, Clashed, Finished, Over}
+use Rattle.paper.specs.Steps.{refused, done, step}
+use Rattle.paper.specs.Reached.{FileOk, Reached, loaded, stepped, Later, same, next, Over}
 use Rattle.paper.specs.Counts.{mostSteps, told, holds}
 use Rattle.paper.specs.declared.Item.{Item}
 use Rattle.paper.specs.declared.Item.the-variants.{Statement as statement, Ask as ask, News as news}
 use Rattle.paper.proofs.StepIsRule.{rule-is-done, Takes, takes-or-waits}
 use Rattle.paper.proofs.Soundness.{reached-sound, item-ok}
 use Rattle.paper.proofs.StepCounts.{rule-fits, step-count}
-use Rattle.paper.proofs.Bindings.{newsAt, Told, reached-told}
+use Rattle.paper.proofs.Bindings.{newsAt, reached-told}
 
 some-news : (c x : ℕ) (l : List Item) → 0 < total (newsAt c x) l → (d : ℕ) × (y : ℕ) × (u : ℕ) × Member (news d y u) l
 some-news c x [] h = absurd (let z : ⊥ = omega arith in z)

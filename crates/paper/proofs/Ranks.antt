@@ -1,10 +1,9 @@
 -- Ranks: 0 for a record, x + 1 for the unknown x. `less` is their order.
 use mathlib.Core.Path.{_≡_, refl}
-use mathlib.Core.Logic.{_⊎_, inl, inr, ⊎-elim}
 use mathlib.Core.Bool.{Bool, true, false, _&&_, _||_}
 use Prim.Native.Nat.{ℕ, suc, _≤_, _<_}
 use native.Mathlib.Omega.{arith}
-use borrow.Author.Tests.{ltb-true, ltb-false, leb-true, leb-false, lt-ltb, le-ltb, le-leb, lt-leb}
+use borrow.Author.Tests.{ltb-true, ltb-false, leb-true, leb-false, lt-ltb, le-ltb, le-leb}
 use lib.Dec.{ltb, leb}
 use Rattle.base.specs.Choice.{pick}
 use Rattle.paper.specs.Tables.{Table, isUnknown, isRecord, less}

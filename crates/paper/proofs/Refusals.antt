@@ -15,9 +15,9 @@ use Rattle.base.proofs.Elements.{place-some, some-place, no-place}
 use Rattle.paper.specs.Sizes.{room}
 use Rattle.paper.specs.Refusals.{noSuchPlace, stillWaits, hasClashed, noRoom}
 use Rattle.paper.specs.Tables.{Table}
-use Rattle.paper.specs.Runs.{State, Run, Sound}
-use Rattle.paper.specs.Rules.{Waits, after, Carried}
-use Rattle.paper.specs.Steps.{Effect, itWaits, takes, effect, Outcome, refused, done, performed, taken, running, step}
+use Rattle.paper.specs.Runs.{Run, Sound}
+use Rattle.paper.specs.Rules.{Waits, after}
+use Rattle.paper.specs.Steps.{Effect, itWaits, takes, effect, refused, done, performed, taken, running, step}
 use Rattle.paper.specs.Reached.{Clashed}
 use Rattle.paper.specs.declared.Item.{Item}
 use Rattle.paper.proofs.StepIsRule.{Takes, takes-or-waits, waiting-effect, step-at, waits-exactly}

@@ -19,7 +19,6 @@ use Rattle.paper.specs.Runs.{Statement, Run, asItem, initial}
 use Rattle.paper.specs.Reached.{StatementOk, FileOk}
 use Rattle.paper.specs.Files.{Form, end, _>>=_, number, times, recordForm, tableForm, statementForm, countForm, fileForm, File, Read, got, fault, reading, ended, readFile, each, recordBytes, statementBytes, tableBytes, fileBytes, paddedFile}
 use Rattle.paper.specs.Replies.{AsLoaded}
-use Rattle.paper.specs.declared.Item.{Item}
 use Rattle.paper.proofs.NumberCodec.{Bytes, number-one, number-most}
 use Rattle.paper.proofs.Forms.{Spells, more, number-spells, spells-next, number-codec, Codec, spells-made, made-spells, spells-bind, bind-spells, times-codec, codec-there, codec-back, fault-got}
 

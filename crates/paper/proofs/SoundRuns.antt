@@ -4,7 +4,7 @@ use mathlib.Core.Bool.{Bool, false}
 use Prim.Native.Nat.{ℕ, _<_}
 use lib.Dec.{T}
 use Rattle.paper.specs.Tables.{Table}
-use Rattle.paper.specs.Runs.{State, Run, Sound}
+use Rattle.paper.specs.Runs.{Run, Sound}
 use Rattle.paper.specs.Ends.{endOf, agree, Unknowns}
 use Rattle.paper.proofs.Depth.{depth-V-is-every-depth}
 use Rattle.paper.proofs.MetPairs.{met-pairs-answer-depth-V}

@@ -1,8 +1,8 @@
 -- Soundness is kept by every accepted step of any sound run, and so holds of every run reached from an accepted file.
-use mathlib.Core.Path.{_≡_, refl, sym, subst, ap, _∙_}
+use mathlib.Core.Path.{_≡_, refl, sym, subst}
 use mathlib.Core.Bool.{Bool, true, false}
 use mathlib.Core.List.{List, [], _∷_, _++_, map}
-use mathlib.Core.Option.{Option, none, some}
+use mathlib.Core.Option.{none, some}
 use Prim.Native.Nat.{ℕ, zero, suc, _+_, _≤_, _<_}
 use native.Mathlib.Omega.{arith}
 use lib.Dec.{lit<}
@@ -11,15 +11,15 @@ use Rattle.base.specs.Choice.{pick, upd}
 use Rattle.base.specs.Lists.{without, All}
 use Rattle.base.proofs.Changes.{upd-all}
 use Rattle.base.proofs.Elements.{all-append, all-without, all-at, all-getD}
-use Rattle.paper.specs.Sizes.{room, numberLimit, mostParts, mostStatements}
-use Rattle.paper.specs.Tables.{Table, Record, RecordOk, TableOk, entries, isUnknown, isRecord, recordAt, noRecord, less}
-use Rattle.paper.specs.Runs.{Mark, nothing, initiated, entry, Statement, State, Run, asItem, initial, Lesser, ItemOk, OwnerOk, MarkOk, MemoOk, ClashOk, StateOk, Sound}
+use Rattle.paper.specs.Sizes.{room}
+use Rattle.paper.specs.Tables.{Table, RecordOk, TableOk, isUnknown, isRecord, recordAt, noRecord, less}
+use Rattle.paper.specs.Runs.{Mark, nothing, initiated, entry, Statement, State, Run, asItem, initial, Lesser, ItemOk, OwnerOk, MarkOk, MemoOk, StateOk, Sound}
 use Rattle.paper.specs.Rules.{withClash, withOwner, withMark, withPair, add, partStatements, newsTo, Rule, interchange, memo, dereference, identify, conflict, decompose, initiate, win, lose, arrive, after, Carried}
-use Rattle.paper.specs.Steps.{Outcome, refused, done, step}
+use Rattle.paper.specs.Steps.{refused, done, step}
 use Rattle.paper.specs.Reached.{StatementOk, FileOk, Reached, loaded, stepped}
 use Rattle.paper.specs.declared.Item.{Item}
 use Rattle.paper.specs.declared.Item.the-variants.{Statement as statement, Ask as ask, News as news}
-use Rattle.paper.proofs.Ranks.{rank, rank-unknown, rank-pos, less-rank, unknown-is}
+use Rattle.paper.proofs.Ranks.{rank-unknown, rank-pos, less-rank, unknown-is}
 use Rattle.paper.proofs.StepIsRule.{done-is-rule}
 use Rattle.paper.proofs.Refusals.{unclashed}
 

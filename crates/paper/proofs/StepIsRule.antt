@@ -4,7 +4,7 @@ use mathlib.Core.Logic.{_⊎_, inl, inr, ⊎-elim, _↔_}
 use mathlib.Core.Bool.{Bool, true, false, _&&_}
 use mathlib.Core.List.{List, [], _∷_, _++_}
 use mathlib.Core.Option.{Option, none, some}
-use Prim.Native.Nat.{ℕ, zero, suc, _≤_, _<_}
+use Prim.Native.Nat.{ℕ, suc, _≤_, _<_}
 use native.Mathlib.Omega.{arith}
 use borrow.Author.Tests.{leb-true, leb-false, le-leb, lt-leb}
 use lib.Dec.{leb}
@@ -17,12 +17,12 @@ use Rattle.base.proofs.Elements.{place-some}
 use Rattle.paper.specs.Sizes.{room}
 use Rattle.paper.specs.Refusals.{stillWaits, noRoom}
 use Rattle.paper.specs.Tables.{Table, isUnknown, isRecord, recordAt, less, sameHead}
-use Rattle.paper.specs.Runs.{Mark, nothing, initiated, entry, State, Run, MemoOk, StateOk, Sound}
-use Rattle.paper.specs.Rules.{withClash, withOwner, withMark, withPair, Mem, add, partStatements, newsTo, Rule, interchange, memo, dereference, identify, conflict, decompose, initiate, win, lose, arrive, Waits, waiting, after, Carried}
-use Rattle.paper.specs.Steps.{act, answer, Effect, itWaits, takes, local, answered, effect, Outcome, refused, done, performed, taken, running, step}
+use Rattle.paper.specs.Runs.{Mark, nothing, initiated, entry, State, Run, MemoOk, Sound}
+use Rattle.paper.specs.Rules.{withClash, withOwner, withMark, withPair, Mem, partStatements, newsTo, Rule, interchange, memo, dereference, identify, conflict, decompose, initiate, win, lose, arrive, Waits, waiting, after, Carried}
+use Rattle.paper.specs.Steps.{act, answer, Effect, itWaits, takes, effect, refused, done, performed, taken, running, step}
 use Rattle.paper.specs.declared.Item.{Item}
 use Rattle.paper.specs.declared.Item.the-variants.{Statement as statement, Ask as ask, News as news}
-use Rattle.paper.proofs.Ranks.{rank, Kind, unknown, recorded, kind, unknown-is, is-unknown, not-unknown, record-is, is-record, less-rank, rank-less, not-less-rank, rank-unknown, rank-record, rank-pos}
+use Rattle.paper.proofs.Ranks.{Kind, unknown, recorded, kind, is-unknown, not-unknown, record-is, is-record, less-rank, not-less-rank, rank-unknown}
 
 -- a memo has pairs of unknowns alone, the greater first
 abbrev pub Ordered : Table → State → Type 0

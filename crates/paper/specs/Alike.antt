@@ -1,11 +1,11 @@
 -- What the statements alone say: alike, clash, agreement to a depth, same item.
 use mathlib.Core.Path.{_≡_}
 use mathlib.Core.Logic.{_⊎_}
-use mathlib.Core.Bool.{Bool, true, false}
+use mathlib.Core.Bool.{true, false}
 use mathlib.Core.List.{List}
 use Prim.Native.Nat.{ℕ, zero, suc}
 use Rattle.base.specs.Lists.{Member, Zip, AllZip}
-use Rattle.paper.specs.Tables.{Table, Record, isRecord, recordAt, sameHead}
+use Rattle.paper.specs.Tables.{Table, isRecord, recordAt, sameHead}
 use Rattle.paper.specs.Runs.{Statement}
 
 -- a = b is one of the statements

@@ -1,15 +1,14 @@
 -- The statement file: what is read, in order; reading it with refusal and position; writing it; statement n.
-use mathlib.Core.Bool.{Bool, true, false, _&&_}
+use mathlib.Core.Bool.{true, false, _&&_}
 use mathlib.Core.List.{List, [], _∷_, _++_}
 use Prim.Native.Nat.{ℕ, zero, suc, _+_, _-_}
 use lib.Dec.{ltb}
 use lib.ListN.{length, take, drop, replicate}
 use Rattle.base.specs.Choice.{pick}
-use Rattle.base.specs.Lists.{All}
 use Rattle.paper.specs.Sizes.{mostCabinets, mostUnknowns, mostRecords, mostStatements, mostParts, numberLimit, longestFile}
 use Rattle.paper.specs.Refusals.{badNumber, badCabinets, badUnknowns, badRecords, tooManyParts, partNotUnknown, tooManyStatements, noSuchCabinet, noSuchEntry, bytesLeft}
 use Rattle.paper.specs.Numbers.{rangedAt, numberBytes}
-use Rattle.paper.specs.Tables.{Record, Table, TableOk, entries}
+use Rattle.paper.specs.Tables.{Record, Table, entries}
 use Rattle.paper.specs.Runs.{Statement}
 use Rattle.paper.specs.declared.Num.{Num}
 use Rattle.paper.specs.declared.Num.the-variants.{Got, Refused}

@@ -2,7 +2,7 @@
 use mathlib.Core.Path.{_≡_}
 use mathlib.Core.List.{List, _++_}
 use Prim.Native.Nat.{ℕ}
-use Rattle.paper.specs.Runs.{State, Run}
+use Rattle.paper.specs.Runs.{Run}
 use Rattle.paper.specs.Steps.{Outcome, refused, done}
 use Rattle.paper.specs.declared.Item.{Item}
 

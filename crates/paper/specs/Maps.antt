@@ -1,12 +1,12 @@
 -- The map's rows: from the statements alone, and computed from a run.
 use mathlib.Core.Path.{_≡_}
-use mathlib.Core.Bool.{Bool, true, false}
+use mathlib.Core.Bool.{true, false}
 use mathlib.Core.List.{List, [], _∷_, map}
 use Prim.Native.Nat.{ℕ, zero, suc, _<_}
 use Rattle.base.specs.Choice.{firstOf}
 use Rattle.base.specs.Lists.{AllZip}
-use Rattle.paper.specs.Tables.{Table, Record, isRecord, recordAt}
-use Rattle.paper.specs.Runs.{Statement, State, Run}
+use Rattle.paper.specs.Tables.{Table, isRecord, recordAt}
+use Rattle.paper.specs.Runs.{Statement, Run}
 use Rattle.paper.specs.Alike.{Alike, SameItem}
 use Rattle.paper.specs.Ends.{End, atOpen, atRecord, endOf, agree}
 

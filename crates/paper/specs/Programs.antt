@@ -7,8 +7,8 @@ use lib.Dec.{ltb}
 use lib.ListN.{length}
 use Rattle.base.specs.Choice.{firstOf}
 use Rattle.paper.specs.Tables.{Table}
-use Rattle.paper.specs.Runs.{State, Run, initial}
-use Rattle.paper.specs.Steps.{Outcome, refused, done, step, waitsAt}
+use Rattle.paper.specs.Runs.{Run, initial}
+use Rattle.paper.specs.Steps.{refused, done, step, waitsAt}
 use Rattle.paper.specs.Files.{File, Read, got, fault, readFile}
 use Rattle.paper.specs.Maps.{Look, openLook, recordLook, Row, mapRow}
 use Rattle.paper.specs.Counts.{mostSteps}

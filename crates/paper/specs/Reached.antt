@@ -2,14 +2,14 @@
 use mathlib.Core.Path.{_≡_}
 use mathlib.Core.Logic.{_⊎_}
 use mathlib.Core.List.{List, [], _∷_}
-use mathlib.Core.Option.{Option, none, some}
+use mathlib.Core.Option.{none, some}
 use Prim.Native.Nat.{ℕ, suc, _≤_, _<_}
 use lib.ListN.{length, take, getElem?}
 use Rattle.base.specs.Lists.{All}
 use Rattle.paper.specs.Sizes.{mostStatements}
 use Rattle.paper.specs.Tables.{Table, TableOk, entries}
-use Rattle.paper.specs.Runs.{Statement, State, Run, initial}
-use Rattle.paper.specs.Steps.{Outcome, refused, done, step}
+use Rattle.paper.specs.Runs.{Statement, Run, initial}
+use Rattle.paper.specs.Steps.{refused, done, step}
 
 -- a statement's ranges
 pub record StatementOk (t : Table) (q : Statement) : Type 0 where

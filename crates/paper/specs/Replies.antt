@@ -8,7 +8,7 @@ use Prim.Native.Nat.{ℕ}
 use Rattle.base.specs.Choice.{pick}
 use Rattle.paper.specs.Refusals.{wrongLength, notSound, hasClashed, itemsPending, notAsLoaded}
 use Rattle.paper.specs.Tables.{Table}
-use Rattle.paper.specs.Runs.{Statement, State, Run, initial}
+use Rattle.paper.specs.Runs.{Statement, Run, initial}
 use Rattle.paper.specs.Steps.{Outcome, refused, done, Listed, listed}
 use Rattle.paper.specs.Files.{File, Read, got, fault}
 use Rattle.paper.specs.Reached.{FileOk}

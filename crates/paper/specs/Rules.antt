@@ -4,14 +4,14 @@
 -- binding may arrive at a cabinet at once.
 use mathlib.Core.Path.{_≡_}
 use mathlib.Core.Logic.{_⊎_}
-use mathlib.Core.Bool.{Bool, true, false}
+use mathlib.Core.Bool.{true, false}
 use mathlib.Core.List.{List, [], _∷_, _++_}
 use mathlib.Core.Option.{Option, none, some}
 use Prim.Native.Nat.{ℕ, zero, suc}
 use lib.ListN.{getElem?}
 use Rattle.base.specs.Choice.{pick, upd}
 use Rattle.base.specs.Lists.{without}
-use Rattle.paper.specs.Tables.{Table, Record, isUnknown, isRecord, recordAt, less, sameHead}
+use Rattle.paper.specs.Tables.{Table, isUnknown, isRecord, recordAt, less, sameHead}
 use Rattle.paper.specs.Runs.{Mark, nothing, initiated, entry, State, Run}
 use Rattle.paper.specs.declared.Item.{Item}
 use Rattle.paper.specs.declared.Item.the-variants.{Statement as statement, Ask as ask, News as news}

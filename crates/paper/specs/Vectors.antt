@@ -1,6 +1,6 @@
 -- Document 01's bench sheet, the lines marked *, as one list; a list of vectors of our own; and one of replies.
-use mathlib.Core.Bool.{Bool, true, false}
-use mathlib.Core.List.{List, [], _∷_, _++_, map}
+use mathlib.Core.Bool.{true, false}
+use mathlib.Core.List.{List, [], _∷_, _++_}
 use mathlib.Core.Option.{Option, none, some}
 use Prim.Native.Nat.{ℕ}
 use Rattle.base.specs.Choice.{pick}
@@ -8,8 +8,8 @@ use Rattle.paper.specs.Sizes.{longestFile}
 use Rattle.paper.specs.Refusals.{noRoom}
 use Rattle.paper.specs.Numbers.{numberAt, numberBytes}
 use Rattle.paper.specs.Tables.{Table}
-use Rattle.paper.specs.Runs.{State, Run, initial}
-use Rattle.paper.specs.Steps.{Outcome, refused, done, step, steps}
+use Rattle.paper.specs.Runs.{Run, initial}
+use Rattle.paper.specs.Steps.{refused, done, step, steps}
 use Rattle.paper.specs.Files.{File, Read, got, fault, readFile}
 use Rattle.paper.specs.Replies.{Reply, reply, checked, loadReply, stepReply, listReply, mapNumber, mapReply, writeReply}
 use Rattle.paper.specs.Ends.{agree, endOf}

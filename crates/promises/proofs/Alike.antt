@@ -1,39 +1,38 @@
 -- Demand 3: two files that say the same end alike, whatever the order of their steps; and every run comes to an end.
-use mathlib.Core.Path.{_≡_, refl, sym, subst, ap, ap₂, _∙_}
+use mathlib.Core.Path.{_≡_, refl, sym, ap, ap₂, _∙_}
 use mathlib.Core.Logic.{_⊎_, inl, inr, ⊎-elim}
 use mathlib.Core.Bool.{Bool, true, false}
-use mathlib.Core.List.{List, [], _∷_, _++_}
-use mathlib.Core.Option.{Option, none, some}
+use mathlib.Core.List.{List, [], _++_}
+use mathlib.Core.Option.{none, some}
 use Prim.Native.Nat.{ℕ, zero, suc, _+_, _-_, _*_, _≤_, _<_}
 use native.Mathlib.Omega.{arith}
-use borrow.Author.Tests.{eqb-true, eqb-false, eq-eqb}
+use borrow.Author.Tests.{eqb-true, eqb-false}
 use lib.Dec.{eqb}
 use lib.ListN.{length, replicate}
 use Rattle.base.specs.Choice.{pick}
 use Rattle.base.proofs.Froms.{from-length}
 use Rattle.paper.specs.Refusals.{noRoom}
 use Rattle.paper.specs.Tables.{Table}
-use Rattle.paper.specs.Runs.{Statement, State, Run}
-use Rattle.paper.specs.Steps.{Outcome, refused, done, step}
+use Rattle.paper.specs.Runs.{Run}
+use Rattle.paper.specs.Steps.{done, step}
 use Rattle.paper.specs.Files.{File, each}
-use Rattle.paper.specs.Reached.{FileOk, Reached, Clashed, Finished, Over}
-use Rattle.paper.specs.Alike.{Clash}
+use Rattle.paper.specs.Reached.{Clashed, Finished, Over}
 use Rattle.paper.specs.Maps.{Row, mapRows}
 use Rattle.paper.specs.SameStatements as one
-use Rattle.paper.specs.SameStatements.{SameItems, SameSet, OneResult}
+use Rattle.paper.specs.SameStatements.{SameSet, OneResult}
 use Rattle.paper.specs.Counts.{mostSteps}
 use Rattle.paper.proofs.StepCounts as counts
 use Rattle.paper.proofs.Progress.{Goes, some-item-goes}
 use Rattle.paper.proofs.OneResult as result
 use Rattle.layout.specs.Offsets.{clashAt, clashCabinetAt, rowBytes, mapBytes}
-use Rattle.layout.specs.Fields.{byteAt, countOf, itemAt, itemsFrom, clashOf, tableOf, stateOf, runOf}
+use Rattle.layout.specs.Fields.{byteAt, countOf, itemAt, stateOf, runOf}
 use Rattle.layout.specs.MapRows.{bytesOfRow, mapOf}
-use Rattle.rules.specs.Bytes.{Out, out, takenBytes, stepBytes}
+use Rattle.rules.specs.Bytes.{Out, out, stepBytes}
 use Rattle.rules.proofs.Bridge.{Ready, outcomeOf, bridge}
-use Rattle.maps.specs.Bytes.{Mapped, mapped, mapBytesOf}
-use Rattle.promises.specs.FromFiles.{Bytes, Accepted, FromFile, stepped, HasClashed, NothingPending, AtEnd}
+use Rattle.maps.specs.Bytes.{mapped}
+use Rattle.promises.specs.FromFiles.{Accepted, FromFile, stepped, HasClashed, NothingPending, AtEnd}
 use Rattle.promises.specs.Demands.{TwoRuns, BothAlike, both-clash, same-map, Demand3}
-use Rattle.promises.proofs.Reaching.{taken-step, step-taken, file-ok, Viewed, viewed, list-from-file}
+use Rattle.promises.proofs.Reaching.{taken-step, file-ok, Viewed, viewed, list-from-file}
 use Rattle.promises.proofs.Derived.{finished-view, map-given}
 
 -- the end of the bytes is the end of their view

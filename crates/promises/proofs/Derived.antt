@@ -1,43 +1,40 @@
 -- Demand 2: each step is one published rule; a finished map is the statements' own; reading and writing undo each other.
 use mathlib.Core.Path.{_≡_, refl, sym, subst, ap, ap₂, _∙_}
-use mathlib.Core.Logic.{_⊎_, inl, inr, _↔_}
+use mathlib.Core.Logic.{_⊎_, _↔_}
 use mathlib.Core.Bool.{Bool, true, false, _&&_}
 use mathlib.Core.List.{List, [], _∷_, _++_}
-use mathlib.Core.Option.{Option, none, some}
-use Prim.Native.Nat.{ℕ, zero, suc, _+_, _-_, _*_, _≤_, _<_}
+use mathlib.Core.Option.{some}
+use Prim.Native.Nat.{ℕ, zero, suc, _+_, _-_, _*_, _≤_}
 use native.Mathlib.Omega.{arith}
 use borrow.Author.Tests.{eqb-true, eq-eqb}
 use lib.Dec.{eqb}
 use lib.ListN.{length, take, getElem?, replicate}
 use Rattle.base.specs.Choice.{pick}
-use Rattle.base.proofs.Elements.{place-some}
-use Rattle.base.proofs.Froms.{from-length}
 use Rattle.paper.specs.Sizes.{longestFile}
 use Rattle.paper.specs.Tables.{Table}
-use Rattle.paper.specs.Runs.{Statement, State, Run}
+use Rattle.paper.specs.Runs.{Statement, Run}
 use Rattle.paper.specs.Rules.{Carried}
-use Rattle.paper.specs.Steps.{Outcome, refused, done, step}
+use Rattle.paper.specs.Steps.{done, step}
 use Rattle.paper.specs.Files.{File, Read, got, fault, readFile, fileBytes, paddedFile, each}
-use Rattle.paper.specs.Reached.{FileOk, Reached, Finished}
+use Rattle.paper.specs.Reached.{Finished}
 use Rattle.paper.specs.Maps.{Row, IsRow, mapRow, rowsFrom, mapRows}
 use Rattle.paper.proofs.StepIsRule.{done-is-rule, one-rule as only-rule}
 use Rattle.paper.proofs.Refusals.{unclashed}
 use Rattle.paper.proofs.RoundTrip.{read-written}
 use Rattle.paper.proofs.NotZero.{refusal-not-zero}
 use Rattle.paper.proofs.OneResult.{map-is-the-statements}
-use Rattle.layout.specs.Offsets.{clashAt, clashCabinetAt, rowBytes, runBytes, mapBytes}
-use Rattle.layout.specs.Fields.{byteAt, countOf, itemAt, itemsFrom, clashOf, tableOf, stateOf, runOf}
+use Rattle.layout.specs.Offsets.{clashAt, rowBytes, runBytes, mapBytes}
+use Rattle.layout.specs.Fields.{byteAt, countOf, itemsFrom, tableOf, stateOf, runOf}
 use Rattle.layout.specs.Soundness.{soundBytes}
 use Rattle.layout.specs.MapRows.{bytesOfRow, mapOf}
-use Rattle.statements.specs.Loads.{loadedBytes}
-use Rattle.statements.specs.Writes.{Answer, answer, asLoaded, fileOf, writtenBytes, loadedRead, loadBytes}
+use Rattle.statements.specs.Writes.{answer, asLoaded, fileOf, writtenBytes, loadedRead, loadBytes}
 use Rattle.statements.proofs.BothWays.{loaded-written, loads-back, written-loads}
 use Rattle.rules.specs.Bytes.{Out, out, stepBytes}
 use Rattle.rules.proofs.Bridge.{Ready, ready-sound, outcomeOf, bridge, Left, bytesOf, taken-left}
-use Rattle.maps.specs.Bytes.{Mapped, mapped, drawnMap, mapBytesOf}
+use Rattle.maps.specs.Bytes.{mapped, drawnMap, mapBytesOf}
 use Rattle.promises.specs.FromFiles.{Bytes, Accepted, FromFile, NothingPending, IsMap}
 use Rattle.promises.specs.Demands.{Demand2}
-use Rattle.promises.proofs.Reaching.{ready-of, step-taken, all-bytes, file-ok, loaded-is, Viewed, viewed, list-is-steps}
+use Rattle.promises.proofs.Reaching.{ready-of, step-taken, all-bytes, file-ok, loaded-is, viewed, list-is-steps}
 
 one-rule : (d : List ℕ) → Bytes d → (i k : ℕ) (e : List ℕ) → stepBytes d i ≡ out 0 k e
     → Carried (tableOf d) (runOf d) i k (runOf e) × (tableOf e ≡ tableOf d) × (soundBytes e ≡ true)

@@ -1,26 +1,22 @@
 -- Demand 1: every reply is the paper's, in its stated order, and a refused call leaves every lent byte.
-use mathlib.Core.Path.{_≡_, refl, sym, subst, ap, _∙_}
+use mathlib.Core.Path.{_≡_, refl, sym, ap, _∙_}
 use mathlib.Core.Logic.{_⊎_, inl, inr}
 use mathlib.Core.Bool.{Bool, true, false, _&&_}
 use mathlib.Core.List.{List, [], _∷_}
-use mathlib.Core.Option.{Option, none, some}
-use Prim.Native.Nat.{ℕ, zero, suc, _+_, _-_, _≤_, _<_}
-use native.Mathlib.Numerals.{add-one}
+use mathlib.Core.Option.{none, some}
+use Prim.Native.Nat.{ℕ, zero, suc, _+_, _-_, _≤_}
 use native.Mathlib.Omega.{arith}
-use borrow.Author.Tests.{eqb-true, eqb-false, eq-eqb, ne-eqb}
+use borrow.Author.Tests.{eqb-true, ne-eqb}
 use lib.Dec.{eqb}
 use lib.ListN.{length, take}
 use Rattle.base.specs.Choice.{pick}
 use Rattle.base.proofs.Tests.{fst-true}
-use Rattle.base.proofs.Froms.{from-length}
 use Rattle.paper.specs.Sizes.{longestFile}
-use Rattle.paper.specs.Runs.{State, Run}
-use Rattle.paper.specs.Steps.{Outcome, refused, done, step, Listed, listed, steps}
+use Rattle.paper.specs.Steps.{Outcome, step, Listed, steps}
 use Rattle.paper.specs.Files.{File, Read, got, fault, readFile, fileBytes, paddedFile, Span}
 use Rattle.paper.specs.Replies.{Reply, reply, checked, loadReply, stepReply, listReply, mapNumber, mapReply, writeReply}
-use Rattle.paper.specs.declared.Item.{Item}
 use Rattle.layout.specs.Offsets.{clashAt, clashCabinetAt, runBytes, mapBytes}
-use Rattle.layout.specs.Fields.{byteAt, countOf, itemAt, itemsFrom, clashOf, tableOf, stateOf, runOf}
+use Rattle.layout.specs.Fields.{byteAt, countOf, itemsFrom, tableOf, stateOf, runOf}
 use Rattle.layout.specs.Soundness.{soundBytes}
 use Rattle.layout.specs.MapRows.{mapOf}
 use Rattle.statements.specs.Writes.{Answer, answer, asLoaded, fileOf, writtenBytes, loadedRead, loadBytes}

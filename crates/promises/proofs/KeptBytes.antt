@@ -1,8 +1,8 @@
 -- Every element stays a byte: what a file is loaded to has only bytes, and an accepted step of bytes leaves bytes.
-use mathlib.Core.Path.{_≡_, refl, sym, subst}
+use mathlib.Core.Path.{_≡_, subst}
 use mathlib.Core.Bool.{Bool, true, false, _&&_}
 use mathlib.Core.List.{List, [], _∷_, _++_, map}
-use Prim.Native.Nat.{ℕ, zero, suc, _+_, _-_, _%_, _/_, _≤_, _<_}
+use Prim.Native.Nat.{ℕ, zero, suc, _+_, _-_, _/_, _≤_, _<_}
 use native.Mathlib.Nat.{mod-lt}
 use native.Mathlib.Omega.{arith}
 use lib.Dec.{ltb, leb, eqb}
@@ -23,12 +23,11 @@ use Rattle.layout.specs.Offsets.{symbolBytes, clashAt, clashCabinetAt, cabinets
 use Rattle.layout.specs.Fields.{byteAt, bytesOf, countOf, symbolOf, partCountOf, partOf, itemAt}
 use Rattle.layout.specs.Changes.{withCount, bytesOfItem, removedAt, appended, appendedAll, storeOf, withStore, withOwner, withPair, withClash, cleared, withSizes, withRecord, withRecords}
 use Rattle.statements.specs.Loads.{loadedBytes}
-use Rattle.choices.specs.declared.Choice.{Choice}
 use Rattle.choices.specs.declared.Choice.the-variants.{Waits, Interchange, Memo, Dereference, Identify, Conflict, Decompose, Initiate}
 use Rattle.choices.specs.Choices.{lessIn, choiceByMark, choiceByRecords, choiceOf}
 use Rattle.effects.specs.Changes.{Change, nothing, mark, owner, pair, clash, applied}
-use Rattle.rules.specs.Plans.{Plan, wait, plan, partsOf, planOfChoice, planOfAsk, planOf}
-use Rattle.rules.specs.Bytes.{Out, out, performedBytes, takenBytes}
+use Rattle.rules.specs.Plans.{Plan, wait, plan, partsOf, planOfChoice, planOf}
+use Rattle.rules.specs.Bytes.{out, performedBytes, takenBytes}
 
 -- a byte, a list of bytes, an item of bytes
 abbrev pub Small : ℕ → Type 0

@@ -1,41 +1,39 @@
 -- Bytes reached from a file view as runs reached in the paper, and stay sound; a list of steps is the paper's.
 use mathlib.Core.Path.{_≡_, refl, sym, subst, ap, ap₂, _∙_}
-use mathlib.Core.Logic.{_⊎_, inl, inr, ⊎-elim}
-use mathlib.Core.Bool.{Bool, true, false, _&&_}
+use mathlib.Core.Logic.{_⊎_}
+use mathlib.Core.Bool.{Bool, true, false}
 use mathlib.Core.List.{List, [], _∷_}
-use mathlib.Core.Option.{Option, none, some}
-use Prim.Native.Nat.{ℕ, zero, suc, _+_, _-_, _≤_, _<_}
+use Prim.Native.Nat.{ℕ, zero, suc, _+_, _-_, _<_}
 use native.Mathlib.Numerals.{add-one}
 use native.Mathlib.Omega.{arith}
-use borrow.Author.Tests.{eqb-true, eqb-false, eq-eqb}
+use borrow.Author.Tests.{eqb-true, eq-eqb}
 use lib.Dec.{eqb, ltb, leb}
 use lib.ListN.{length, take}
 use Rattle.base.specs.Choice.{pick}
 use Rattle.base.specs.Lists.{All}
-use Rattle.base.proofs.Froms.{from-length}
 use Rattle.paper.specs.Sizes.{room}
-use Rattle.paper.specs.Refusals.{noRoom, stillWaits, noSuchPlace, hasClashed}
+use Rattle.paper.specs.Refusals.{noRoom, noSuchPlace, hasClashed}
 use Rattle.paper.specs.Tables.{Table}
-use Rattle.paper.specs.Runs.{Statement, State, Run, initial, Sound}
-use Rattle.paper.specs.Steps.{Outcome, refused, done, step, Listed, listed, steps}
-use Rattle.paper.specs.Files.{File, Read, got, fault, readFile}
+use Rattle.paper.specs.Runs.{Sound}
+use Rattle.paper.specs.Steps.{refused, done, step, Listed, listed, steps}
+use Rattle.paper.specs.Files.{File, got, readFile}
 use Rattle.paper.specs.Reached as paper
 use Rattle.paper.specs.Reached.{FileOk, Reached}
 use Rattle.paper.proofs.Soundness.{loaded-sound}
 use Rattle.paper.proofs.RoundTrip.{read-written}
-use Rattle.layout.specs.Offsets.{clashAt, clashCabinetAt, runBytes}
-use Rattle.layout.specs.Fields.{byteAt, countOf, itemAt, clashOf, tableOf, stateOf, runOf}
+use Rattle.layout.specs.Offsets.{clashAt, runBytes}
+use Rattle.layout.specs.Fields.{byteAt, countOf, itemAt, tableOf, runOf}
 use Rattle.layout.specs.Soundness.{soundBytes}
 use Rattle.layout.proofs.SoundViews.{tested, shaped, view-sound, canonical}
 use Rattle.statements.specs.Loads.{loadedBytes}
-use Rattle.statements.specs.Writes.{Answer, answer, loadedRead, loadBytes}
-use Rattle.statements.proofs.Loaded.{LoadedAs, loaded-as}
+use Rattle.statements.specs.Writes.{answer, loadedRead, loadBytes}
+use Rattle.statements.proofs.Loaded.{loaded-as}
 use Rattle.layout.specs.Changes.{removedAt, appendedAll}
 use Rattle.effects.specs.Changes.{applied}
 use Rattle.rules.specs.Plans.{Plan, wait, plan, planOf}
 use Rattle.rules.specs.Bytes.{Out, out, performedBytes, takenBytes, stepBytes, onwardBytes, allTaken, stepsBytes}
 use Rattle.rules.proofs.Bridge.{Ready, ready-sound, outcomeOf, bridge, Left, bytesOf, taken-left}
-use Rattle.promises.specs.FromFiles.{Bytes, Accepted, FromFile, loaded, stepped, Along, none-left, one-more, ListEnds, all-done, stops, HasClashed, NothingPending, AtEnd}
+use Rattle.promises.specs.FromFiles.{Bytes, Accepted, FromFile, loaded, stepped, Along, none-left, one-more, ListEnds, all-done, stops, NothingPending, AtEnd}
 
 -- sound bytes are ready for a step
 pub ready-of : (d : List ℕ) → length d ≡ runBytes → soundBytes d ≡ true → Bytes d → Ready d

@@ -2,15 +2,14 @@
 -- stepBytes, stepsBytes, mapBytesOf and writtenBytes. proofs/Fixed, proofs/Derived and proofs/Alike prove them.
 use mathlib.Core.Path.{_≡_}
 use mathlib.Core.Logic.{_⊎_, _↔_}
-use mathlib.Core.Bool.{true, false, _&&_}
+use mathlib.Core.Bool.{true, _&&_}
 use mathlib.Core.List.{List, _++_}
 use Prim.Native.Nat.{ℕ, suc, _+_, _-_, _≤_}
 use lib.Dec.{eqb}
 use lib.ListN.{length, take, replicate}
 use Rattle.paper.specs.Sizes.{longestFile}
 use Rattle.paper.specs.Refusals.{noRoom}
-use Rattle.paper.specs.Tables.{Table}
-use Rattle.paper.specs.Runs.{Statement, Run}
+use Rattle.paper.specs.Runs.{Run}
 use Rattle.paper.specs.Rules.{Carried}
 use Rattle.paper.specs.Steps.{step, steps}
 use Rattle.paper.specs.Files.{File, readFile, fileBytes, Span, statementSpan}

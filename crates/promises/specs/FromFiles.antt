@@ -8,7 +8,7 @@ use Prim.Native.Nat.{ℕ, suc, _-_, _*_, _<_}
 use lib.ListN.{length, getElem?, replicate}
 use Rattle.paper.specs.Tables.{Table}
 use Rattle.paper.specs.Runs.{Statement}
-use Rattle.paper.specs.Files.{File, Read, got, readFile, each}
+use Rattle.paper.specs.Files.{File, got, readFile, each}
 use Rattle.paper.specs.Maps.{Row, IsRow}
 use Rattle.layout.specs.Offsets.{clashAt, rowBytes, mapBytes}
 use Rattle.layout.specs.Fields.{byteAt, countOf}

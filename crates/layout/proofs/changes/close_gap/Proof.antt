@@ -1,7 +1,7 @@
 -- `close_gap`: i bytes have moved; the measure is what is left of them.
 use Prim.Native.Nat.{_+_, _≤_, _-_}
 use lib.ListN.{length, length-set}
-use mathlib.Core.Path.{_≡_, refl, ap, _∙_}
+use mathlib.Core.Path.{_≡_, refl}
 use native.Mathlib.Omega.{arith}
 use Rattle.base.proofs.Regions.{shift-start, shift-again, gone-made}
 use Rattle.base.specs.Regions.{shifted}
