@@ -99,15 +99,7 @@ pub fn memo(run: &mut [u8], s: Store, place: usize) -> Store
 }
 
 // Rule 3: the memo gains the pair if b is an unknown; m, the store's entry for a, equals b.
-pub fn dereference(
-    run: &mut [u8],
-    s: Store,
-    place: usize,
-    c: u8,
-    a: u8,
-    b: u8,
-    m: u8,
-) -> Store
+pub fn dereference(run: &mut [u8], s: Store, place: usize, c: u8, a: u8, b: u8, m: u8) -> Store
     requires { ⌜ Fits (now run) place 1 × (byteAt (now run) unknownsAt ≤ mostUnknowns) × (c < mostCabinets) × (a < mostUnknowns) ⌝ }
     ensures { λ r. ⌜ left (r .marks) (now (run .exit)) ≡ left (s .marks) (appendedAll (Statement c m b ∷ []) (removedAt place (applied (pick (ltb b (byteAt (now (run .entry)) unknownsAt)) (pair c a b) nothing) (now (run .entry))))) ⌝ }
 {
