@@ -1,5 +1,5 @@
 // Owner marks followed to their end, for all unknowns at once too, and two records' heads compared.
-use crate::met::MOST_UNKNOWNS;
+use paper::sizes::MOST_UNKNOWNS;
 ghost use mathlib.Core.Path.{_≡_};
 ghost use Prim.Native.Nat.{_<_};
 ghost use lib.ListN.{length};
@@ -11,7 +11,7 @@ ghost use Rattle.agreement.specs.Given.{SoundRun};
 ghost use Rattle.agreement.specs.Ends.{EndsAt, AllEnd};
 
 // The mark of an unknown that has no owner.
-const NOTHING: usize = 255;
+const NOTHING: usize = layout::NOTHING as usize;
 
 // The entry at which the owner marks from x on end: an unknown without one, or a record.
 pub fn end_of(run: &[u8], v: usize, x: usize) -> usize

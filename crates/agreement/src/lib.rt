@@ -6,10 +6,10 @@ mod met; // met.rt: the table of met pairs
 pub use ends::end_of;
 pub use ends::ends_of;
 use ends::same_head;
-pub use met::MOST_UNKNOWNS;
 use met::Met;
 use met::meet;
 use met::settled;
+use paper::sizes::MOST_UNKNOWNS;
 ghost use mathlib.Core.Path.{_≡_};
 ghost use mathlib.Core.Bool.{false};
 ghost use Prim.Native.Nat.{_<_};

@@ -1,4 +1,5 @@
 // The table of met pairs: small enough to go by value, its bits reached by shifts; it is lent to what only reads it.
+use paper::sizes;
 ghost use mathlib.Core.Path.{_≡_};
 ghost use mathlib.Core.Bool.{true, false};
 ghost use Prim.Native.Nat.{_+_, _^_, _<_};
@@ -7,12 +8,9 @@ ghost use Rattle.paper.specs.Ends.{isMet, meeting};
 ghost use Rattle.paper.specs.Sizes.{mostUnknowns};
 ghost use Rattle.agreement.specs.Met.{bitOf, metOf, settledIn};
 
-// At most so many unknowns, and as many bits in a word.
-pub const MOST_UNKNOWNS: usize = 32;
-
 // For each unknown a word, with a bit for each unknown that is not greater.
 pub struct Met {
-    pub words: [u32; MOST_UNKNOWNS],
+    pub words: [u32; sizes::MOST_UNKNOWNS],
 }
 
 // Bit q of a word.
@@ -32,7 +30,7 @@ fn set_bit(word: u32, q: usize) -> u32
 }
 
 // Whether the pair x, y is in the table, either way round.
-fn is_met(words: &[u32; MOST_UNKNOWNS], x: usize, y: usize) -> bool
+fn is_met(words: &[u32; sizes::MOST_UNKNOWNS], x: usize, y: usize) -> bool
     requires { ⌜ (x < mostUnknowns) × (y < mostUnknowns) ⌝ }
     ensures { λ b. ⌜ b ≡ isMet (metOf (now (words .entry))) x y ⌝ }
 {
@@ -43,7 +41,7 @@ fn is_met(words: &[u32; MOST_UNKNOWNS], x: usize, y: usize) -> bool
 }
 
 // Whether x and y are not to be compared: they are one unknown, or a pair in the table.
-pub fn settled(words: &[u32; MOST_UNKNOWNS], x: usize, y: usize) -> bool
+pub fn settled(words: &[u32; sizes::MOST_UNKNOWNS], x: usize, y: usize) -> bool
     requires { ⌜ (x < mostUnknowns) × (y < mostUnknowns) ⌝ }
     ensures { λ b. ⌜ b ≡ settledIn (metOf (now (words .entry))) x y ⌝ }
 {

@@ -25,11 +25,6 @@ pub enum Choice {
     Initiate,
 }
 
-// The marks that are no entry.
-const NOTHING: u8 = 255;
-
-const INITIATED: u8 = 254;
-
 // Whether u is less than x, with v unknowns: x is an unknown, and u a record or an unknown with a smaller number.
 fn less(v: usize, u: usize, x: usize) -> bool
     ensures { λ b. ⌜ b ≡ lessIn v u x ⌝ }
@@ -60,10 +55,10 @@ fn by_mark(run: &[u8], s: Store, v: usize, c: usize, x: usize, u: usize) -> Choi
     ensures { λ r. ⌜ r ≡ choiceByMark v (now (run .entry)) c x u (getD (s .marks) x 0) ⌝ }
 {
     let m = s.marks[x];
-    if m == NOTHING {
+    if m == layout::NOTHING {
         return Choice::Initiate;
     }
-    if m == INITIATED {
+    if m == layout::INITIATED {
         return Choice::Waits;
     }
     if met(run, v, c, x, u) {

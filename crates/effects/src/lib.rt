@@ -3,6 +3,7 @@
 // value and gives it back; who takes the store out of the run puts it back.
 use layout::Store;
 use paper::Item;
+use paper::sizes;
 ghost use mathlib.Core.Path.{_≡_};
 ghost use mathlib.Core.List.{[], _∷_};
 ghost use Prim.Native.Nat.{_≤_, _<_};
@@ -17,11 +18,6 @@ ghost use Rattle.layout.specs.Fields.{byteAt, partsFrom};
 ghost use Rattle.layout.specs.Changes.{removedAt, appendedAll};
 ghost use Rattle.effects.specs.Changes.{left, nothing, owner, pair, clash, applied};
 ghost use Rattle.effects.specs.Given.{Fits, Room, elementsFrom};
-
-// The mark of an unknown whose ask is on its way.
-const INITIATED: u8 = 254;
-
-const MOST_PARTS: usize = 4;
 
 // The store with m as its mark for x.
 fn marked(s: Store, x: u8, m: u8) -> Store
@@ -154,7 +150,7 @@ pub fn initiate(run: &mut [u8], s: Store, place: usize, c: u8, a: u8, b: u8) -> 
             right: b,
         },
     );
-    marked(s, a, INITIATED)
+    marked(s, a, layout::INITIATED)
 }
 
 // Rule 10: the store's mark for x becomes u, the entry that the news brings.
@@ -168,7 +164,7 @@ pub fn arrive(run: &mut [u8], s: Store, place: usize, x: u8, u: u8) -> Store
 
 // The four part places of a record.
 struct Parts {
-    entries: [u8; MOST_PARTS],
+    entries: [u8; sizes::MOST_PARTS],
 }
 
 // The part places of record i, copied out.
@@ -176,7 +172,7 @@ fn parts_of(run: &[u8], i: usize) -> Parts
     requires { ⌜ (length (now run) ≡ runBytes) × (i < mostRecords) ⌝ }
     ensures { λ r. ⌜ r .entries ≡ partsFrom (now (run .entry)) i mostParts 0 ⌝ }
 {
-    let mut entries = [0u8; MOST_PARTS];
+    let mut entries = [0u8; sizes::MOST_PARTS];
     entries[0] = layout::part_at(run, i, 0) as u8;
     entries[1] = layout::part_at(run, i, 1) as u8;
     entries[2] = layout::part_at(run, i, 2) as u8;

@@ -3,6 +3,7 @@ use super::fields::Store;
 use super::fields::count;
 use super::offsets;
 use paper::Item;
+use paper::sizes;
 ghost use mathlib.Core.Path.{_≡_};
 ghost use mathlib.Core.List.{[], _∷_, _++_};
 ghost use Prim.Native.Nat.{_+_, _%_, _≤_, _<_};
@@ -135,9 +136,9 @@ pub fn save_store(run: &mut [u8], c: usize, s: Store)
 {
     copy_in(
         run,
-        offsets::STORES + offsets::MOST_UNKNOWNS * c,
+        offsets::STORES + sizes::MOST_UNKNOWNS * c,
         &s.marks,
-        offsets::MOST_UNKNOWNS,
+        sizes::MOST_UNKNOWNS,
     );
 }
 
@@ -154,7 +155,7 @@ pub fn set_pair(run: &mut [u8], c: usize, x: usize, y: usize)
     requires { ⌜ (length (now run) ≡ runBytes) × (c < mostCabinets) × (x < mostUnknowns) × (y < mostUnknowns) ⌝ }
     ensures { λ _. ⌜ now (run .exit) ≡ withPair c x y (now (run .entry)) ⌝ }
 {
-    run[offsets::MEMOS + offsets::MEMO_BYTES * c + offsets::MOST_UNKNOWNS * x + y] = 1;
+    run[offsets::MEMOS + offsets::MEMO_BYTES * c + sizes::MOST_UNKNOWNS * x + y] = 1;
 }
 
 // The run clashed in cabinet c.
@@ -203,7 +204,7 @@ pub fn set_record(
     i: usize,
     symbol: u64,
     count: usize,
-    parts: [u8; offsets::MOST_PARTS],
+    parts: [u8; sizes::MOST_PARTS],
 )
     requires { ⌜ (length (now run) ≡ runBytes) × (i < mostRecords) × (count ≤ mostParts) × (symbol < numberLimit) ⌝ }
     ensures { λ _. ⌜ now (run .exit) ≡ withRecord i (record { symbol = symbol; parts = take count parts }) (now (run .entry)) ⌝ }

@@ -1,6 +1,7 @@
 // Readers: each gives back what specs/Fields says stands in its field of the run's bytes.
 use super::offsets;
 use paper::Item;
+use paper::sizes;
 ghost use mathlib.Core.Path.{_≡_};
 ghost use Prim.Native.Nat.{_+_, _<_};
 ghost use lib.ListN.{length};
@@ -158,13 +159,18 @@ pub fn pair_at(run: &[u8], c: usize, x: usize, y: usize) -> usize
 {
     byte(
         run,
-        offsets::MEMOS + offsets::MEMO_BYTES * c + offsets::MOST_UNKNOWNS * x + y,
+        offsets::MEMOS + offsets::MEMO_BYTES * c + sizes::MOST_UNKNOWNS * x + y,
     )
 }
 
+// The marks that are no entry: nothing, and, in stores only, initiated.
+pub const NOTHING: u8 = 255;
+
+pub const INITIATED: u8 = 254;
+
 // The marks of one cabinet's store.
 pub struct Store {
-    pub marks: [u8; offsets::MOST_UNKNOWNS],
+    pub marks: [u8; sizes::MOST_UNKNOWNS],
 }
 
 // The store of cabinet c, copied out.
@@ -172,10 +178,10 @@ pub fn load_store(run: &[u8], c: usize) -> Store
     requires { ⌜ (length (now run) ≡ runBytes) × (c < mostCabinets) ⌝ }
     ensures { λ r. ⌜ r .marks ≡ storeOf c (now (run .entry)) ⌝ }
 {
-    let at = offsets::STORES + offsets::MOST_UNKNOWNS * c;
-    let mut marks = [0u8; offsets::MOST_UNKNOWNS];
+    let at = offsets::STORES + sizes::MOST_UNKNOWNS * c;
+    let mut marks = [0u8; sizes::MOST_UNKNOWNS];
     let mut i = 0;
-    while i < offsets::MOST_UNKNOWNS {
+    while i < sizes::MOST_UNKNOWNS {
         marks[i] = run[at + i];
         i += 1;
     }

@@ -1,5 +1,6 @@
 // What the map program prints of a statement file: its map, `clash` or the refusal.
 use libc::STDOUT_FILENO;
+use paper::sizes;
 use statements::LoadReply;
 ghost use Prim.Native.Nat.{_≤_};
 ghost use lib.ListN.{length};
@@ -14,11 +15,8 @@ ghost use Rattle.mapping.specs.Runs.{Ran};
 ghost use Rattle.layout.specs.Puts.{PutFrom};
 ghost use Rattle.printing.specs.Prints.{mostPrinted};
 
-// The map's bytes.
-const MAP_BYTES: usize = 352;
-
 // The last number of the longest file can start at 835, and five bytes may have to be seen to refuse it.
-const INPUT_BYTES: usize = 840;
+const INPUT_BYTES: usize = sizes::LONGEST_FILE - 1 + sizes::MOST_GROUPS;
 
 // More than the longest text has.
 const TEXT_BYTES: usize = 2048;
@@ -32,7 +30,7 @@ fn print_run(run: &[u8], out: &mut [u8]) -> usize
         return printing::print_clash(out);
     }
     let v = layout::unknowns(run);
-    let mut map = [0u8; MAP_BYTES];
+    let mut map = [0u8; layout::MAP_BYTES];
     maps::map(run, &mut map);
     printing::print_map(&map, v, out)
 }

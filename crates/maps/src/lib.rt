@@ -2,19 +2,10 @@
 mod lows; // lows.rt: the lowest same item of each unknown
 mod rows; // rows.rt: the rows of the map
 
-use rows::MAP_BYTES;
+use paper::refusal;
 use rows::draw;
 ghost use mathlib.Core.Path.{_≡_};
 ghost use Rattle.maps.specs.Bytes.{mapped, mapBytesOf};
-
-// The refusals of a map call, in their order; 0 means done.
-const WRONG_LENGTH: usize = 12;
-
-const NOT_SOUND: usize = 17;
-
-const HAS_CLASHED: usize = 15;
-
-const ITEMS_PENDING: usize = 16;
 
 const DONE: usize = 0;
 
@@ -23,19 +14,19 @@ pub fn map(run: &[u8], map: &mut [u8]) -> usize
     ensures { λ r. ⌜ mapped r (now (map .exit)) ≡ mapBytesOf (now (run .entry)) (now (map .entry)) ⌝ }
 {
     if run.len() != layout::RUN_BYTES {
-        return WRONG_LENGTH;
+        return refusal::WRONG_LENGTH;
     }
-    if map.len() != MAP_BYTES {
-        return WRONG_LENGTH;
+    if map.len() != layout::MAP_BYTES {
+        return refusal::WRONG_LENGTH;
     }
     if !soundness::sound(run) {
-        return NOT_SOUND;
+        return refusal::NOT_SOUND;
     }
     if layout::clash_byte(run) != 0 {
-        return HAS_CLASHED;
+        return refusal::HAS_CLASHED;
     }
     if layout::count(run) != 0 {
-        return ITEMS_PENDING;
+        return refusal::ITEMS_PENDING;
     }
     draw(run, layout::unknowns(run), map);
     DONE

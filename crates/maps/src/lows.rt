@@ -1,7 +1,7 @@
 // The lowest same item of each unknown, asked for once: a part may be a later unknown, so this goes before the rows.
-use agreement::MOST_UNKNOWNS;
 use agreement::ends_of;
 use agreement::same_item;
+use paper::sizes::MOST_UNKNOWNS;
 ghost use mathlib.Core.Path.{_≡_};
 ghost use Prim.Native.Nat.{_<_};
 ghost use Rattle.paper.specs.Maps.{lowestOf};

@@ -1,7 +1,7 @@
 // The rows of the map, each in its 11 bytes.
 use crate::lows::lowest_items;
-use agreement::MOST_UNKNOWNS;
 use agreement::end_of;
+use paper::sizes::MOST_UNKNOWNS;
 ghost use mathlib.Core.Path.{_≡_};
 ghost use Prim.Native.Nat.{_+_, _≤_, _<_};
 ghost use lib.ListN.{length};
@@ -15,13 +15,8 @@ ghost use Rattle.maps.specs.Rows.{unknownsOf, lowestItems, lowsOf, recor
 // The kind of a row that is not open.
 const RECORD: u8 = 1;
 
-// From a row's kind to its parts: the kind, the symbol in four bytes, the part count.
-const HEAD_BYTES: usize = 1 + 4 + 1;
-
-// The lowest same item is first, and at most four parts are last.
-const ROW_BYTES: usize = 1 + HEAD_BYTES + 4;
-
-pub const MAP_BYTES: usize = MOST_UNKNOWNS * ROW_BYTES;
+// From a row's kind to its parts: the kind, the symbol, the part count.
+const HEAD_BYTES: usize = 1 + layout::SYMBOL_BYTES + 1;
 
 // The lowest same item of each of the n parts of record i, from `at` on.
 fn write_lows(run: &[u8], lows: &[u8; MOST_UNKNOWNS], i: usize, n: usize, map: &mut [u8], at: usize)
@@ -52,7 +47,7 @@ fn write_row(run: &[u8], v: usize, lows: &[u8; MOST_UNKNOWNS], x: usize, map: &m
     requires { ⌜ SoundRun (now run) v × (now lows ≡ lowestItems (now run) v) × (x < v) × Drawn (now run) x (now map) ⌝ }
     ensures { λ _. ⌜ Drawn (now (run .entry)) (x + 1) (now (map .exit)) ⌝ }
 {
-    let at = ROW_BYTES * x;
+    let at = layout::ROW_BYTES * x;
     map[at] = lows[x];
     let a = end_of(run, v, x);
     if a < v {
@@ -66,7 +61,7 @@ pub fn draw(run: &[u8], v: usize, map: &mut [u8])
     requires { ⌜ SoundRun (now run) v × (length (now map) ≡ mapBytes) ⌝ }
     ensures { λ _. ⌜ now (map .exit) ≡ mapOf (tableOf (now (run .entry))) (runOf (now (run .entry))) ⌝ }
 {
-    layout::fill(map, 0, MAP_BYTES, 0);
+    layout::fill(map, 0, layout::MAP_BYTES, 0);
     let lows = lowest_items(run, v);
     let mut x = 0;
     while x < v {

@@ -1,24 +1,14 @@
 // Numbers of a statement file, read and written: groups of seven bits, lowest first, one to a byte. A byte's top bit, 128,
 // says that another group follows.
 use paper::Num;
+use paper::refusal;
+use paper::sizes;
 ghost use mathlib.Core.Path.{_≡_};
 ghost use Prim.Native.Nat.{_+_, _≤_, _<_};
 ghost use lib.ListN.{length};
 ghost use Rattle.paper.specs.Sizes.{mostGroups, topGroup, numberLimit};
 ghost use Rattle.paper.specs.Numbers.{largest, groupsFrom, numberAt, rangedAt, numberBytes};
 ghost use Rattle.numbers.specs.Written.{Written};
-
-// The paper's mostGroups.
-const MOST_GROUPS: usize = 5;
-
-// The paper's topGroup.
-const TOP_GROUP: u64 = 15;
-
-// The paper's refusal 1, fileEnds.
-const FILE_ENDS: usize = 1;
-
-// The paper's refusal 2, badNumber.
-const BAD_NUMBER: usize = 2;
 
 // A byte as a wide number, so that its readers need not show that it fits.
 fn wide(x: u8) -> u64
@@ -31,7 +21,7 @@ fn wide(x: u8) -> u64
 fn largest_end(more: usize) -> u64
     ensures { λ r. ⌜ r ≡ largest more topGroup ⌝ }
 {
-    if more == 0 { TOP_GROUP } else { 127 }
+    if more == 0 { sizes::TOP_GROUP } else { 127 }
 }
 
 // At most `left` groups at `at` of a number that starts at `from`. The ending group is at least `least`: 0 for a number's
@@ -41,18 +31,18 @@ fn groups_from(s: &[u8], from: usize, at: usize, left: usize, least: u64) -> Num
     ensures { λ r. ⌜ r ≡ groupsFrom left topGroup least (now (s .entry)) from at ⌝ }
 {
     if left == 0 {
-        return Num::Refused(BAD_NUMBER, from);
+        return Num::Refused(refusal::BAD_NUMBER, from);
     }
     if s.len() <= at {
-        return Num::Refused(FILE_ENDS, from);
+        return Num::Refused(refusal::FILE_ENDS, from);
     }
     let group = wide(s[at]);
     if group < 128 {
         if group < least {
-            return Num::Refused(BAD_NUMBER, from);
+            return Num::Refused(refusal::BAD_NUMBER, from);
         }
         if largest_end(left - 1) < group {
-            return Num::Refused(BAD_NUMBER, from);
+            return Num::Refused(refusal::BAD_NUMBER, from);
         }
         return Num::Got(group, at + 1);
     }
@@ -73,7 +63,7 @@ pub fn number_at(s: &[u8], at: usize) -> Num
             return Num::Got(only, at + 1);
         }
     }
-    groups_from(s, at, at, MOST_GROUPS, 0)
+    groups_from(s, at, at, sizes::MOST_GROUPS, 0)
 }
 
 // The number at `at`, refused by `refusal` unless it is at least `low` and below `below`.

@@ -1,4 +1,5 @@
 // The map program's text: what it prints of a map's 352 bytes, of a clash and of a refusal, put into a buffer.
+use paper::sizes;
 ghost use mathlib.Core.Path.{_≡_};
 ghost use mathlib.Core.List.{[], _∷_};
 ghost use Prim.Native.Nat.{_+_, _*_, _≤_, _<_};
@@ -12,15 +13,6 @@ ghost use Rattle.layout.specs.Fields.{byteAt};
 ghost use Rattle.layout.specs.Given.{Reads, byteLimit};
 ghost use Rattle.layout.specs.Puts.{PutFrom};
 ghost use Rattle.printing.specs.Prints.{symbolAt, partCountAt, partAt, platePrinted, lookAt, rowPrinted, rowsPrinted, itemsPrinted, mapPrinted, refusedPrinted, positionPrinted, mostPrinted};
-
-// The paper's mostParts.
-const MOST_PARTS: usize = 4;
-
-// The layout's symbolBytes.
-const SYMBOL_BYTES: usize = 4;
-
-// The layout's rowBytes.
-const ROW_BYTES: usize = 2 + SYMBOL_BYTES + 1 + MOST_PARTS;
 
 // Twenty digits hold every number of 64 bits.
 const MOST_DIGITS: usize = 20;
@@ -49,7 +41,7 @@ fn symbol(map: &[u8], x: usize) -> u64
     requires { ⌜ (length (now map) ≡ mapBytes) × (x < mostUnknowns) ⌝ }
     ensures { λ r. ⌜ Reads (symbolAt (now (map .entry)) x) numberLimit r ⌝ }
 {
-    let at = ROW_BYTES * x;
+    let at = layout::ROW_BYTES * x;
     let low = byte(map, at + 2) + 256 * byte(map, at + 3);
     let high = byte(map, at + 4) + 256 * byte(map, at + 5);
     low + 65536 * high
@@ -60,11 +52,11 @@ fn part_count(map: &[u8], x: usize) -> usize
     requires { ⌜ (length (now map) ≡ mapBytes) × (x < mostUnknowns) ⌝ }
     ensures { λ r. ⌜ Reads (partCountAt (now (map .entry)) x) (mostParts + 1) r ⌝ }
 {
-    let count = byte(map, ROW_BYTES * x + 2 + SYMBOL_BYTES) as usize;
-    if count <= MOST_PARTS {
+    let count = byte(map, layout::ROW_BYTES * x + 2 + layout::SYMBOL_BYTES) as usize;
+    if count <= sizes::MOST_PARTS {
         return count;
     }
-    MOST_PARTS
+    sizes::MOST_PARTS
 }
 
 // One byte.
@@ -129,7 +121,7 @@ fn put_parts(map: &[u8], x: usize, count: usize, out: &mut [u8], at: usize) -> u
     let mut k: usize = 0;
     let mut here = at;
     while k < count {
-        let part = byte(map, ROW_BYTES * x + 3 + SYMBOL_BYTES + k);
+        let part = byte(map, layout::ROW_BYTES * x + 3 + layout::SYMBOL_BYTES + k);
         here = put_spaced(out, here, part);
         k += 1;
     }
@@ -152,7 +144,7 @@ fn put_look(map: &[u8], x: usize, out: &mut [u8], at: usize) -> usize
     requires { ⌜ (length (now map) ≡ mapBytes) × (x < mostUnknowns) × (at + length (printedLook (lookAt (now map) x)) ≤ length (now out)) ⌝ }
     ensures { λ r. ⌜ PutFrom at (printedLook (lookAt (now (map .entry)) x)) (now (out .entry)) (now (out .exit)) r ⌝ }
 {
-    let kind = byte(map, ROW_BYTES * x + 1);
+    let kind = byte(map, layout::ROW_BYTES * x + 1);
     if kind == 0 {
         return put_word(out, at, b" open");
     }
@@ -165,7 +157,7 @@ fn put_row(map: &[u8], x: usize, out: &mut [u8], at: usize) -> usize
     requires { ⌜ (length (now map) ≡ mapBytes) × (x < mostUnknowns) × (at + length (rowPrinted (now map) x) ≤ length (now out)) ⌝ }
     ensures { λ r. ⌜ PutFrom at (rowPrinted (now (map .entry)) x) (now (out .entry)) (now (out .exit)) r ⌝ }
 {
-    let lowest = byte(map, ROW_BYTES * x);
+    let lowest = byte(map, layout::ROW_BYTES * x);
     let at_lowest = put_decimal(out, at, x as u64);
     let at_look = put_spaced(out, at_lowest, lowest);
     let at_newline = put_look(map, x, out, at_look);

@@ -1,5 +1,7 @@
 // The statement file, read: the sizes, a record, a statement, each with where the read ended; the whole file; statement n.
 use paper::Num;
+use paper::refusal;
+use paper::sizes;
 ghost use mathlib.Core.Path.{_≡_};
 ghost use Prim.Native.Nat.{_+_, _≤_};
 ghost use Rattle.paper.specs.Sizes.{mostCabinets, mostUnknowns, mostRecords, mostParts};
@@ -7,52 +9,19 @@ ghost use Rattle.paper.specs.Files.{times, recordForm, reading, statementSpan, 
 ghost use Rattle.reading.specs.Reads.{numberEnd, endOf, sizesForm, sizesRead, unread, partsForm, RecordFound, statementFormOf, statementRead, noFile, checkedFile, spanOf};
 
 // One more than the paper's mostCabinets.
-const CABINETS_BELOW: u64 = 9;
+const CABINETS_BELOW: u64 = sizes::MOST_CABINETS as u64 + 1;
 
 // One more than the paper's mostUnknowns.
-const UNKNOWNS_BELOW: u64 = 33;
+const UNKNOWNS_BELOW: u64 = sizes::MOST_UNKNOWNS as u64 + 1;
 
 // One more than the paper's mostRecords.
-const RECORDS_BELOW: u64 = 65;
-
-// The paper's numberLimit.
-const SYMBOLS_BELOW: u64 = 4294967296;
+const RECORDS_BELOW: u64 = sizes::MOST_RECORDS as u64 + 1;
 
 // One more than the paper's mostParts.
-const PARTS_BELOW: u64 = 5;
+const PARTS_BELOW: u64 = sizes::MOST_PARTS as u64 + 1;
 
 // One more than the paper's mostStatements.
-const STATEMENTS_BELOW: u64 = 65;
-
-// The paper's refusal 2, badNumber.
-const BAD_NUMBER: usize = 2;
-
-// The paper's refusal 3, badCabinets.
-const BAD_CABINETS: usize = 3;
-
-// The paper's refusal 4, badUnknowns.
-const BAD_UNKNOWNS: usize = 4;
-
-// The paper's refusal 5, badRecords.
-const BAD_RECORDS: usize = 5;
-
-// The paper's refusal 6, tooManyParts.
-const TOO_MANY_PARTS: usize = 6;
-
-// The paper's refusal 7, partNotUnknown.
-const PART_NOT_UNKNOWN: usize = 7;
-
-// The paper's refusal 8, tooManyStatements.
-const TOO_MANY_STATEMENTS: usize = 8;
-
-// The paper's refusal 9, noSuchCabinet.
-const NO_SUCH_CABINET: usize = 9;
-
-// The paper's refusal 10, noSuchEntry.
-const NO_SUCH_ENTRY: usize = 10;
-
-// The paper's refusal 11, bytesLeft.
-const BYTES_LEFT: usize = 11;
+const STATEMENTS_BELOW: u64 = sizes::MOST_STATEMENTS as u64 + 1;
 
 // Where a read ended: the next position; or a refusal and the position where the faulty number starts.
 pub enum End {
@@ -72,7 +41,7 @@ struct Sizes {
 pub struct RecordRead {
     pub symbol: u64,
     pub count: usize,
-    pub parts: [u8; 4],
+    pub parts: [u8; sizes::MOST_PARTS],
     pub end: End,
 }
 
@@ -128,15 +97,15 @@ fn no_sizes(read: Num) -> Sizes
 fn read_sizes(file: &[u8]) -> Sizes
     ensures { λ r. ⌜ sizesRead r ≡ reading sizesForm (now (file .entry)) 0 ⌝ }
 {
-    let first = numbers::ranged_at(file, 0, 1, CABINETS_BELOW, BAD_CABINETS);
+    let first = numbers::ranged_at(file, 0, 1, CABINETS_BELOW, refusal::BAD_CABINETS);
     let Num::Got(s, at_unknowns) = first else {
         return no_sizes(first);
     };
-    let second = numbers::ranged_at(file, at_unknowns, 0, UNKNOWNS_BELOW, BAD_UNKNOWNS);
+    let second = numbers::ranged_at(file, at_unknowns, 0, UNKNOWNS_BELOW, refusal::BAD_UNKNOWNS);
     let Num::Got(v, at_records) = second else {
         return no_sizes(second);
     };
-    let third = numbers::ranged_at(file, at_records, 0, RECORDS_BELOW, BAD_RECORDS);
+    let third = numbers::ranged_at(file, at_records, 0, RECORDS_BELOW, refusal::BAD_RECORDS);
     let Num::Got(r, next) = third else {
         return no_sizes(third);
     };
@@ -155,7 +124,7 @@ fn no_record(read: Num) -> RecordRead
     RecordRead {
         symbol: 0,
         count: 0,
-        parts: [0u8; 4],
+        parts: [0u8; sizes::MOST_PARTS],
         end: number_end(read),
     }
 }
@@ -165,11 +134,11 @@ fn read_parts(file: &[u8], at: usize, v: usize, symbol: u64, count: usize) -> Re
     requires { ⌜ (v ≤ mostUnknowns) × (count ≤ mostParts) ⌝ }
     ensures { λ r. ⌜ RecordFound (partsForm v symbol count) (now (file .entry)) at r ⌝ }
 {
-    let mut parts = [0u8; 4];
+    let mut parts = [0u8; sizes::MOST_PARTS];
     let mut i: usize = 0;
     let mut here = at;
     while i < count {
-        let read = numbers::ranged_at(file, here, 0, v as u64, PART_NOT_UNKNOWN);
+        let read = numbers::ranged_at(file, here, 0, v as u64, refusal::PART_NOT_UNKNOWN);
         let Num::Got(part, next) = read else {
             return no_record(read);
         };
@@ -190,11 +159,11 @@ pub fn read_record(file: &[u8], at: usize, v: usize) -> RecordRead
     requires { ⌜ v ≤ mostUnknowns ⌝ }
     ensures { λ r. ⌜ RecordFound (recordForm v) (now (file .entry)) at r ⌝ }
 {
-    let first = numbers::ranged_at(file, at, 0, SYMBOLS_BELOW, BAD_NUMBER);
+    let first = numbers::ranged_at(file, at, 0, sizes::NUMBER_LIMIT, refusal::BAD_NUMBER);
     let Num::Got(symbol, at_count) = first else {
         return no_record(first);
     };
-    let second = numbers::ranged_at(file, at_count, 0, PARTS_BELOW, TOO_MANY_PARTS);
+    let second = numbers::ranged_at(file, at_count, 0, PARTS_BELOW, refusal::TOO_MANY_PARTS);
     let Num::Got(count, at_parts) = second else {
         return no_record(second);
     };
@@ -218,15 +187,15 @@ pub fn read_statement(file: &[u8], at: usize, s: usize, n: usize) -> StatementRe
     requires { ⌜ (s ≤ mostCabinets) × (n ≤ mostUnknowns + mostRecords) ⌝ }
     ensures { λ r. ⌜ statementRead r ≡ reading (statementFormOf s n) (now (file .entry)) at ⌝ }
 {
-    let first = numbers::ranged_at(file, at, 0, s as u64, NO_SUCH_CABINET);
+    let first = numbers::ranged_at(file, at, 0, s as u64, refusal::NO_SUCH_CABINET);
     let Num::Got(cabinet, at_left) = first else {
         return no_statement(first);
     };
-    let second = numbers::ranged_at(file, at_left, 0, n as u64, NO_SUCH_ENTRY);
+    let second = numbers::ranged_at(file, at_left, 0, n as u64, refusal::NO_SUCH_ENTRY);
     let Num::Got(left, at_right) = second else {
         return no_statement(second);
     };
-    let third = numbers::ranged_at(file, at_right, 0, n as u64, NO_SUCH_ENTRY);
+    let third = numbers::ranged_at(file, at_right, 0, n as u64, refusal::NO_SUCH_ENTRY);
     let Num::Got(right, next) = third else {
         return no_statement(third);
     };
@@ -307,7 +276,13 @@ pub fn check_file(file: &[u8]) -> Checked
     let End::At(count_at) = records_end else {
         return no_file(records_end);
     };
-    let count = numbers::ranged_at(file, count_at, 0, STATEMENTS_BELOW, TOO_MANY_STATEMENTS);
+    let count = numbers::ranged_at(
+        file,
+        count_at,
+        0,
+        STATEMENTS_BELOW,
+        refusal::TOO_MANY_STATEMENTS,
+    );
     let Num::Got(e, list) = count else {
         return no_file(number_end(count));
     };
@@ -316,7 +291,7 @@ pub fn check_file(file: &[u8]) -> Checked
         return no_file(statements_end);
     };
     if end < file.len() {
-        return no_file(End::Refused(BYTES_LEFT, end));
+        return no_file(End::Refused(refusal::BYTES_LEFT, end));
     }
     Checked {
         cabinets: s,

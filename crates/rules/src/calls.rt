@@ -1,6 +1,7 @@
 // The calls: a step, and a list of steps, of any bytes at all. 12 and 17 refuse them before an item is looked at.
 use super::taking::StepReply;
 use super::taking::take;
+use paper::refusal;
 ghost use mathlib.Core.Path.{_≡_};
 ghost use mathlib.Core.Bool.{true};
 ghost use lib.ListN.{length};
@@ -8,18 +9,13 @@ ghost use Rattle.layout.specs.Offsets.{runBytes};
 ghost use Rattle.layout.specs.Soundness.{soundBytes};
 ghost use Rattle.rules.specs.Bytes.{out, stepBytes, allTaken, stepsBytes};
 
-// The refusals of a run that is not well formed.
-const WRONG_LENGTH: usize = 12;
-
-const NOT_SOUND: usize = 17;
-
 // One step: the item at `place` is taken.
 pub fn step(run: &mut [u8], place: usize) -> StepReply
     ensures { λ r. ⌜ out (r .number) (r .rule) (now (run .exit)) ≡ stepBytes (now (run .entry)) place ⌝ }
 {
     if run.len() != layout::RUN_BYTES {
         return StepReply {
-            number: WRONG_LENGTH,
+            number: refusal::WRONG_LENGTH,
             rule: 0,
         };
     }
@@ -27,7 +23,7 @@ pub fn step(run: &mut [u8], place: usize) -> StepReply
         return take(run, place);
     }
     StepReply {
-        number: NOT_SOUND,
+        number: refusal::NOT_SOUND,
         rule: 0,
     }
 }
@@ -70,7 +66,7 @@ pub fn steps(run: &mut [u8], places: &[u32]) -> ListReply
 {
     if run.len() != layout::RUN_BYTES {
         return ListReply {
-            number: WRONG_LENGTH,
+            number: refusal::WRONG_LENGTH,
             done: 0,
         };
     }
@@ -78,7 +74,7 @@ pub fn steps(run: &mut [u8], places: &[u32]) -> ListReply
         return take_all(run, places);
     }
     ListReply {
-        number: NOT_SOUND,
+        number: refusal::NOT_SOUND,
         done: 0,
     }
 }

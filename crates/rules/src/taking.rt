@@ -2,6 +2,8 @@
 use choices::Choice;
 use layout::Store;
 use paper::Item;
+use paper::refusal;
+use paper::sizes;
 ghost use mathlib.Core.Path.{_≡_};
 ghost use mathlib.Core.Bool.{true};
 ghost use mathlib.Core.List.{[]};
@@ -22,19 +24,8 @@ ghost use Rattle.rules.specs.Plans.{plan, planOfChoice, planOfAsk};
 ghost use Rattle.rules.specs.Bytes.{out, performedBytes, takenBytes};
 ghost use Rattle.rules.specs.Given.{productCount, fullFor, done, doneBytes, carriedBytes, waitsIn, waitsBytes};
 
-const ROOM: usize = 12672;
-
 // An owner mark that is not set.
-const NO_OWNER: usize = 255;
-
-// The refusals of a step that is well formed.
-const NO_SUCH_PLACE: usize = 13;
-
-const STILL_WAITS: usize = 14;
-
-const HAS_CLASHED: usize = 15;
-
-const NO_ROOM: usize = 18;
+const NO_OWNER: usize = layout::NOTHING as usize;
 
 // 0 and the rule's number, or a refusal's number and 0.
 #[repr(C)]
@@ -65,7 +56,7 @@ fn full(run: &[u8], n: usize) -> bool
     requires { ⌜ (length (now run) ≡ runBytes) × (0 < countOf (now run)) × (n < byteLimit) ⌝ }
     ensures { λ b. ⌜ b ≡ fullFor n (now (run .entry)) ⌝ }
 {
-    layout::count(run) - 1 + n > ROOM
+    layout::count(run) - 1 + n > sizes::ROOM
 }
 
 // A local rule's number, and the store that it gives back.
@@ -134,14 +125,14 @@ fn take_statement(run: &mut [u8], place: usize, c: u8, a: u8, b: u8) -> StepRepl
     let q = choices::choose(run, s, c as usize, a as usize, b as usize);
     if let Choice::Waits = q {
         return StepReply {
-            number: STILL_WAITS,
+            number: refusal::STILL_WAITS,
             rule: 0,
         };
     }
     let n = products(run, a, q);
     if full(run, n) {
         return StepReply {
-            number: NO_ROOM,
+            number: refusal::NO_ROOM,
             rule: 0,
         };
     }
@@ -161,7 +152,7 @@ fn take_ask(run: &mut [u8], place: usize, x: u8, u: u8) -> StepReply
     let s = layout::cabinets(run);
     if full(run, s) {
         return StepReply {
-            number: NO_ROOM,
+            number: refusal::NO_ROOM,
             rule: 0,
         };
     }
@@ -190,13 +181,13 @@ pub fn take(run: &mut [u8], place: usize) -> StepReply
 {
     if layout::clash_byte(run) != 0 {
         return StepReply {
-            number: HAS_CLASHED,
+            number: refusal::HAS_CLASHED,
             rule: 0,
         };
     }
     if place >= layout::count(run) {
         return StepReply {
-            number: NO_SUCH_PLACE,
+            number: refusal::NO_SUCH_PLACE,
             rule: 0,
         };
     }

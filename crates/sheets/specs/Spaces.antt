@@ -1,14 +1,16 @@
 -- How much room a sheet, a list and the lent buffers have.
-use Prim.Native.Nat.{ℕ}
+use Prim.Native.Nat.{ℕ, _+_}
+use Rattle.paper.specs.Sizes.{longestFile}
+use Rattle.layout.specs.Offsets.{runBytes, mapBytes}
 
 abbrev pub runSpace : ℕ
-runSpace = 59753
+runSpace = runBytes + 1
 
 abbrev pub mapSpace : ℕ
-mapSpace = 353
+mapSpace = mapBytes + 1
 
 abbrev pub fileSpace : ℕ
-fileSpace = 837
+fileSpace = longestFile + 1
 
 abbrev pub sheetSpace : ℕ
 sheetSpace = 131072

@@ -6,11 +6,11 @@ ghost use mathlib.Core.Path.{_≡_};
 ghost use Rattle.sheets.specs.Spaces.{runSpace, mapSpace, fileSpace, listSpace};
 
 // One byte more than a call takes: so that a sheet can lend too many, too.
-pub const RUN_SPACE: usize = 59753;
+pub const RUN_SPACE: usize = layout::RUN_BYTES + 1;
 
-pub const MAP_SPACE: usize = 353;
+pub const MAP_SPACE: usize = layout::MAP_BYTES + 1;
 
-pub const FILE_SPACE: usize = 837;
+pub const FILE_SPACE: usize = paper::sizes::LONGEST_FILE + 1;
 
 // The longest list of places.
 const LIST_SPACE: usize = 16384;

@@ -1,5 +1,6 @@
 // Whether a run's 59,752 bytes are sound: one test for each region of document 01's table, each over the definition of its
 // name in specs/Soundness.antt. The sizes are tested first, so that no sum of them can overflow.
+use paper::sizes;
 ghost use mathlib.Core.Path.{_≡_};
 ghost use mathlib.Core.Bool.{_&&_};
 ghost use Prim.Native.Nat.{_+_, _<_, _≤_};
@@ -11,42 +12,10 @@ ghost use Rattle.layout.specs.Offsets.{runBytes, itemFrom};
 ghost use Rattle.layout.specs.Fields.{byteAt};
 ghost use Rattle.layout.specs.Soundness.{zerosAt, lesser, clashOk, sizesOk, partsOk, recordsOk, ownerOk, ownersOk, markOk, storeOk, storesOk, memoRowOk, memoOk, memosOk, itemOk, itemsOk, regionsOk, soundBytes};
 
-// The limits of document 01.
-const MOST_CABINETS: usize = 8;
+// The marks that are no entry, as numbers.
+const NOTHING: usize = layout::NOTHING as usize;
 
-const MOST_UNKNOWNS: usize = 32;
-
-const MOST_RECORDS: usize = 64;
-
-const MOST_STATEMENTS: usize = 64;
-
-const MOST_PARTS: usize = 4;
-
-const ROOM: usize = 12672;
-
-// The marks that are no entry.
-const NOTHING: usize = 255;
-
-const INITIATED: usize = 254;
-
-// Where each region starts, and how many bytes each of its pieces has.
-const TABLE_AT: usize = 8;
-
-const RECORD_BYTES: usize = 9;
-
-const SYMBOL_BYTES: usize = 4;
-
-const OWNERS_AT: usize = 584;
-
-const STORES_AT: usize = 616;
-
-const MEMOS_AT: usize = 872;
-
-const MEMO_BYTES: usize = 1024;
-
-const PENDING_AT: usize = 9064;
-
-const ITEM_BYTES: usize = 4;
+const INITIATED: usize = layout::INITIATED as usize;
 
 // A byte as a number.
 fn wide(x: u8) -> usize
@@ -138,19 +107,19 @@ fn sizes_ok(s: usize, v: usize, r: usize, e: usize, n: usize) -> bool
     if s < 1 {
         return false;
     }
-    if s > MOST_CABINETS {
+    if s > sizes::MOST_CABINETS {
         return false;
     }
-    if v > MOST_UNKNOWNS {
+    if v > sizes::MOST_UNKNOWNS {
         return false;
     }
-    if r > MOST_RECORDS {
+    if r > sizes::MOST_RECORDS {
         return false;
     }
-    if e > MOST_STATEMENTS {
+    if e > sizes::MOST_STATEMENTS {
         return false;
     }
-    n <= ROOM
+    n <= sizes::ROOM
 }
 
 // Whether p can stand at part place k of a record with n parts: an unknown below the count, else 0.
@@ -168,13 +137,13 @@ fn parts_ok(run: &[u8], v: usize, i: usize) -> bool
     requires { ⌜ (length (now run) ≡ runBytes) × (i < mostRecords) ⌝ }
     ensures { λ b. ⌜ b ≡ partsOk v i (now (run .entry)) ⌝ }
 {
-    let n = wide(run[TABLE_AT + RECORD_BYTES * i + SYMBOL_BYTES]);
-    if n > MOST_PARTS {
+    let n = wide(run[layout::TABLE + layout::RECORD_BYTES * i + layout::SYMBOL_BYTES]);
+    if n > sizes::MOST_PARTS {
         return false;
     }
     let mut k = 0;
-    while k < MOST_PARTS {
-        let p = wide(run[TABLE_AT + RECORD_BYTES * i + SYMBOL_BYTES + 1 + k]);
+    while k < sizes::MOST_PARTS {
+        let p = wide(run[layout::TABLE + layout::RECORD_BYTES * i + layout::SYMBOL_BYTES + 1 + k]);
         if !part_ok(v, n, k, p) {
             return false;
         }
@@ -197,8 +166,8 @@ fn records_ok(run: &[u8], v: usize, r: usize) -> bool
     }
     zeros_at(
         run,
-        RECORD_BYTES * (MOST_RECORDS - r),
-        TABLE_AT + RECORD_BYTES * r,
+        layout::RECORD_BYTES * (sizes::MOST_RECORDS - r),
+        layout::TABLE + layout::RECORD_BYTES * r,
     )
 }
 
@@ -207,7 +176,7 @@ fn owner_ok(run: &[u8], v: usize, r: usize, x: usize) -> bool
     requires { ⌜ (length (now run) ≡ runBytes) × (v ≤ mostUnknowns) × (r ≤ mostRecords) × (x < mostUnknowns) ⌝ }
     ensures { λ b. ⌜ b ≡ ownerOk v r (now (run .entry)) x ⌝ }
 {
-    let u = wide(run[OWNERS_AT + x]);
+    let u = wide(run[layout::OWNERS + x]);
     if u == NOTHING {
         return true;
     }
@@ -220,7 +189,7 @@ fn owners_ok(run: &[u8], v: usize, r: usize) -> bool
     ensures { λ b. ⌜ b ≡ ownersOk v r (now (run .entry)) ⌝ }
 {
     let mut x = 0;
-    while x < MOST_UNKNOWNS {
+    while x < sizes::MOST_UNKNOWNS {
         if !owner_ok(run, v, r, x) {
             return false;
         }
@@ -260,8 +229,8 @@ fn store_ok(run: &[u8], s: usize, v: usize, r: usize, c: usize) -> bool
     ensures { λ b. ⌜ b ≡ storeOk s v r (now (run .entry)) c ⌝ }
 {
     let mut x = 0;
-    while x < MOST_UNKNOWNS {
-        let m = wide(run[STORES_AT + MOST_UNKNOWNS * c + x]);
+    while x < sizes::MOST_UNKNOWNS {
+        let m = wide(run[layout::STORES + sizes::MOST_UNKNOWNS * c + x]);
         if !held_ok(s, v, r, c, x, m) {
             return false;
         }
@@ -276,7 +245,7 @@ fn stores_ok(run: &[u8], s: usize, v: usize, r: usize) -> bool
     ensures { λ b. ⌜ b ≡ storesOk s v r (now (run .entry)) ⌝ }
 {
     let mut c = 0;
-    while c < MOST_CABINETS {
+    while c < sizes::MOST_CABINETS {
         if !store_ok(run, s, v, r, c) {
             return false;
         }
@@ -304,12 +273,12 @@ fn memo_row_ok(run: &[u8], s: usize, v: usize, c: usize, x: usize) -> bool
     requires { ⌜ (length (now run) ≡ runBytes) × (c < mostCabinets) × (x < mostUnknowns) ⌝ }
     ensures { λ b. ⌜ b ≡ memoRowOk s v (now (run .entry)) c x ⌝ }
 {
-    let at = MEMOS_AT + MEMO_BYTES * c + MOST_UNKNOWNS * x;
+    let at = layout::MEMOS + layout::MEMO_BYTES * c + sizes::MOST_UNKNOWNS * x;
     let n = pairs_of(s, v, c, x);
     if !bits_at(run, n, at) {
         return false;
     }
-    zeros_at(run, MOST_UNKNOWNS - n, at + n)
+    zeros_at(run, sizes::MOST_UNKNOWNS - n, at + n)
 }
 
 // Whether cabinet c's memo is sound. Most memos have no pair, which one test shows.
@@ -317,11 +286,15 @@ fn memo_ok(run: &[u8], s: usize, v: usize, c: usize) -> bool
     requires { ⌜ (length (now run) ≡ runBytes) × (c < mostCabinets) ⌝ }
     ensures { λ b. ⌜ b ≡ memoOk s v (now (run .entry)) c ⌝ }
 {
-    if zeros_at(run, MEMO_BYTES, MEMOS_AT + MEMO_BYTES * c) {
+    if zeros_at(
+        run,
+        layout::MEMO_BYTES,
+        layout::MEMOS + layout::MEMO_BYTES * c,
+    ) {
         return true;
     }
     let mut x = 0;
-    while x < MOST_UNKNOWNS {
+    while x < sizes::MOST_UNKNOWNS {
         if !memo_row_ok(run, s, v, c, x) {
             return false;
         }
@@ -336,7 +309,7 @@ fn memos_ok(run: &[u8], s: usize, v: usize) -> bool
     ensures { λ b. ⌜ b ≡ memosOk s v (now (run .entry)) ⌝ }
 {
     let mut c = 0;
-    while c < MOST_CABINETS {
+    while c < sizes::MOST_CABINETS {
         if !memo_ok(run, s, v, c) {
             return false;
         }
@@ -374,7 +347,7 @@ fn item_at_ok(run: &[u8], s: usize, v: usize, r: usize, p: usize) -> bool
     requires { ⌜ (length (now run) ≡ runBytes) × (v ≤ mostUnknowns) × (r ≤ mostRecords) × (p < room) ⌝ }
     ensures { λ b. ⌜ b ≡ itemOk s v r (byteAt (now (run .entry)) (itemFrom p)) (byteAt (now (run .entry)) (itemFrom p + 1)) (byteAt (now (run .entry)) (itemFrom p + 2)) (byteAt (now (run .entry)) (itemFrom p + 3)) ⌝ }
 {
-    let at = PENDING_AT + ITEM_BYTES * p;
+    let at = layout::PENDING + layout::ITEM_BYTES * p;
     let k = wide(run[at]);
     let c = wide(run[at + 1]);
     let a = wide(run[at + 2]);
@@ -394,7 +367,11 @@ fn items_ok(run: &[u8], s: usize, v: usize, r: usize, n: usize) -> bool
         }
         p += 1;
     }
-    zeros_at(run, ITEM_BYTES * (ROOM - n), PENDING_AT + ITEM_BYTES * n)
+    zeros_at(
+        run,
+        layout::ITEM_BYTES * (sizes::ROOM - n),
+        layout::PENDING + layout::ITEM_BYTES * n,
+    )
 }
 
 // Whether the regions that depend on the sizes are sound.

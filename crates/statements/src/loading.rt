@@ -1,5 +1,6 @@
 // Loading: the whole file is checked first, and only then read again into the run, so that a refused file leaves every byte.
 use paper::Item;
+use paper::refusal;
 use reading::End;
 use reading::check_file;
 use reading::read_record;
@@ -16,9 +17,6 @@ ghost use Rattle.layout.specs.Fields.{countOf};
 ghost use Rattle.layout.specs.Changes.{withRecords, appendedAll};
 ghost use Rattle.reading.specs.Reads.{WasRead, listOf, statementFormOf};
 ghost use Rattle.statements.specs.Writes.{answer, loadBytes};
-
-// The paper's refusal 12, wrongLength.
-const WRONG_LENGTH: usize = 12;
 
 // The reply to a load: 0 for done, else the refusal; and the position of the fault, else 0.
 #[repr(C)]
@@ -79,7 +77,7 @@ pub fn load(file: &[u8], run: &mut [u8]) -> LoadReply
 {
     if run.len() != layout::RUN_BYTES {
         return LoadReply {
-            number: WRONG_LENGTH,
+            number: refusal::WRONG_LENGTH,
             position: 0,
         };
     }

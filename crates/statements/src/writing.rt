@@ -1,4 +1,6 @@
 // Writing: a run that is as loading some file leaves it, back into that file.
+use paper::refusal;
+use paper::sizes;
 ghost use mathlib.Core.Path.{_≡_};
 ghost use mathlib.Core.Bool.{true};
 ghost use Prim.Native.Nat.{_+_, _≤_, _<_};
@@ -13,18 +15,6 @@ ghost use Rattle.layout.specs.Fields.{partCountOf, partsFrom, recordOf, records
 ghost use Rattle.layout.specs.Soundness.{soundBytes};
 ghost use Rattle.layout.specs.Puts.{PutFrom};
 ghost use Rattle.statements.specs.Writes.{allAre, allStatements, asLoaded, statementAt, fileOf, sizesBytes, FilePut, answer, writtenBytes};
-
-// The paper's longestFile.
-const LONGEST_FILE: usize = 836;
-
-// The paper's refusal 12, wrongLength.
-const WRONG_LENGTH: usize = 12;
-
-// The paper's refusal 17, notSound.
-const NOT_SOUND: usize = 17;
-
-// The paper's refusal 19, notAsLoaded.
-const NOT_AS_LOADED: usize = 19;
 
 // The kind of a pending item that is a statement.
 const STATEMENT: u8 = 1;
@@ -203,7 +193,7 @@ fn write_padded(run: &[u8], file: &mut [u8]) -> usize
     ensures { λ r. ⌜ answer 0 r (now (file .exit)) ≡ answer 0 (length (fileBytes (fileOf (now (run .entry))))) (paddedFile (fileOf (now (run .entry)))) ⌝ }
 {
     let end = write_file(run, file);
-    layout::fill(file, end, LONGEST_FILE - end, 0);
+    layout::fill(file, end, sizes::LONGEST_FILE - end, 0);
     end
 }
 
@@ -213,25 +203,25 @@ pub fn write(run: &[u8], file: &mut [u8]) -> WriteReply
 {
     if run.len() != layout::RUN_BYTES {
         return WriteReply {
-            number: WRONG_LENGTH,
+            number: refusal::WRONG_LENGTH,
             length: 0,
         };
     }
-    if file.len() != LONGEST_FILE {
+    if file.len() != sizes::LONGEST_FILE {
         return WriteReply {
-            number: WRONG_LENGTH,
+            number: refusal::WRONG_LENGTH,
             length: 0,
         };
     }
     if !soundness::sound(run) {
         return WriteReply {
-            number: NOT_SOUND,
+            number: refusal::NOT_SOUND,
             length: 0,
         };
     }
     if !as_loaded(run) {
         return WriteReply {
-            number: NOT_AS_LOADED,
+            number: refusal::NOT_AS_LOADED,
             length: 0,
         };
     }

@@ -17,7 +17,10 @@ same-length : tie.Need-same-length
 same-length c = search needs
 
 returns : tie.Need-returns
-returns c = search padded-put
+returns c =
+    let long = c .before .before .before .before .before .before .before .before .before .before .pre .3 in
+    let w = c .before .before .before .before .before .before .write-file .ensures in
+    padded-put _ _ long _ _ w _ (c .before .before .fill .ensures)
 
 pub write-padded-spec : {M : Type 1} → statement M
 write-padded-spec =
