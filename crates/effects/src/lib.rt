@@ -1,6 +1,6 @@
-// What the rules do: each function makes its rule's one change, takes the item away and appends the products in order, and so
-// leaves what the rule's plan in rules/specs/Plans.antt says. A local rule, all but 8 and 9, is given its cabinet's store as a
-// value and gives it back; who takes the store out of the run puts it back.
+// What the rules do: each function makes its rule's one change, takes the item away and appends the products in order. A local
+// rule, all but 8 and 9, is given its cabinet's store as a value and gives it back; who takes the store out of the run puts it
+// back, and what is left then is what specs/Changes says of the rule's change (proofs/StoreLaws).
 use layout::Store;
 use paper::Item;
 use paper::sizes;
@@ -41,7 +41,7 @@ fn note_pair(run: &mut [u8], c: u8, x: u8, u: u8)
     layout::set_pair(run, c as usize, x as usize, u as usize);
 }
 
-// The item at `place` goes, and nothing comes: all of rule 9, and the end of 2, 4, 5, 8 and 10.
+// The item at `place` goes, and nothing comes: all that 2, 4 and 9 do to the run, and a part of 5, 8 and 10.
 pub fn replace_by_none(run: &mut [u8], place: usize)
     requires { ⌜ Fits (now run) place 0 ⌝ }
     ensures { λ _. ⌜ now (run .exit) ≡ removedAt place (now (run .entry)) ⌝ }
