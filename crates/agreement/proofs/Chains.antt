@@ -1,29 +1,27 @@
 -- What following a mark gives: an unknown without one is its own end, a record's mark ends the chain, and any other falls.
 use mathlib.Core.Path.{_≡_, sym, subst, ap, _∙_}
 use mathlib.Core.Logic.{⊎-elim}
-use mathlib.Core.Bool.{Bool, false}
+use mathlib.Core.Bool.{Bool}
 use mathlib.Core.List.{List}
 use mathlib.Core.Option.{none, some}
 use Prim.Native.Nat.{ℕ, _+_, _-_, _≤_, _<_}
 use native.Mathlib.Numerals.{add-one}
 use native.Mathlib.Omega.{arith}
 use borrow.Author.Tests.{lt-ltb, le-ltb, eq-eqb, ne-eqb}
-use lib.Dec.{eqb}
 use lib.ListN.{getD, set, replicate, length-set, length-replicate}
 use lib.Seq.{getD-set-same, getD-set-other}
 use Rattle.base.specs.Choice.{pick}
 use Rattle.base.proofs.Tests.{last-or}
-use Rattle.paper.specs.Sizes.{mostUnknowns, numberLimit}
-use Rattle.paper.specs.Tables.{sameHead}
+use Rattle.paper.specs.Sizes.{mostUnknowns}
 use Rattle.paper.specs.Runs.{Lesser, OwnerOk}
 use Rattle.paper.specs.Ends.{atOpen, atRecord}
 use Rattle.paper.proofs.Ranks.{rank-unknown, is-record}
 use Rattle.paper.proofs.Chains.{Falls, end-record, end-open, end-owner, owners-fall}
 use Rattle.layout.specs.Offsets.{unknownsAt, recordsAt, ownersAt}
-use Rattle.layout.specs.Fields.{byteAt, symbolOf, partCountOf, recordOf, ownerMark, ownerOf, tableOf}
+use Rattle.layout.specs.Fields.{byteAt, recordOf, ownerMark, ownerOf, tableOf}
 use Rattle.layout.specs.Given.{Reads, byteLimit}
 use Rattle.layout.proofs.SoundViews.{entries-are, owner-ok}
-use Rattle.layout.proofs.ViewedFields.{owner-byte, record-byte, head-byte}
+use Rattle.layout.proofs.ViewedFields.{owner-byte, record-byte}
 use Rattle.agreement.specs.Given.{SoundRun}
 use Rattle.agreement.specs.Ends.{endAt, EndsAt, AllEnd}
 use Rattle.agreement.proofs.Ranges.{tests}
@@ -111,12 +109,3 @@ one-more-end d v x a es w g h e =
 
 pub all-end : (d : List ℕ) (v x : ℕ) (es : List ℕ) → AllEnd d x es → x ≤ v → v ≤ x → AllEnd d v es
 all-end d v x es w h k = let e : x ≡ v = omega arith in subst (λ (n : ℕ). AllEnd d n es) e w
-
--- two records' heads, as read
-module _ (d : List ℕ) (i k s t : ℕ) (hs : Reads (symbolOf d i) numberLimit s) (ht : Reads (symbolOf d k) numberLimit t) where
-  pub heads-differ : (s ≡ t → ⊥) → false ≡ sameHead (recordOf d i) (recordOf d k)
-  heads-differ n = sym (head-byte d i k ∙ rw (← hs .same, ← ht .same, ne-eqb s t n))
-
-  pub heads-counted : (m n : ℕ) → Reads (partCountOf d i) byteLimit m → Reads (partCountOf d k) byteLimit n → s ≡ t
-      → eqb m n ≡ sameHead (recordOf d i) (recordOf d k)
-  heads-counted m n hm hn e = sym (head-byte d i k ∙ rw (← hs .same, ← ht .same, ← hm .same, ← hn .same, eq-eqb s t e))

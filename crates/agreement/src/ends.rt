@@ -41,14 +41,3 @@ pub fn ends_of(run: &[u8], v: usize) -> [u8; MOST_UNKNOWNS]
     }
     ends
 }
-
-// Whether records i and k have the same symbol and part count.
-pub fn same_head(run: &[u8], i: usize, k: usize) -> bool
-    requires { ⌜ (length (now run) ≡ runBytes) × (i < mostRecords) × (k < mostRecords) ⌝ }
-    ensures { λ b. ⌜ b ≡ sameHead (recordOf (now (run .entry)) i) (recordOf (now (run .entry)) k) ⌝ }
-{
-    if layout::symbol_at(run, i) != layout::symbol_at(run, k) {
-        return false;
-    }
-    layout::part_count(run, i) == layout::part_count(run, k)
-}

@@ -5,7 +5,6 @@ mod met; // met.rt: the table of met pairs
 
 pub use ends::end_of;
 pub use ends::ends_of;
-use ends::same_head;
 use met::Met;
 use met::meet;
 use met::settled;
@@ -53,7 +52,7 @@ fn agree_unknowns(
             met: next,
         };
     }
-    if !same_head(run, a - v, b - v) {
+    if !layout::same_head(run, a - v, b - v) {
         return Agreed {
             same: false,
             met: next,

@@ -5,13 +5,14 @@ use mathlib.Core.List.{List}
 use Prim.Native.Nat.{ℕ, _-_, _≤_, _<_}
 use lib.Dec.{ltb, leb, eqb}
 use lib.ListN.{getD}
-use borrow.Author.Tests.{lt-ltb, le-ltb, le-leb, lt-leb, eq-eqb, ne-eqb, ltb-true, ltb-false}
+use borrow.Author.Tests.{lt-ltb, le-ltb, le-leb, lt-leb, ne-eqb, ltb-true, ltb-false}
 use Rattle.base.proofs.Tests.{fst-true}
-use Rattle.paper.specs.Sizes.{numberLimit}
+use Rattle.paper.specs.Tables.{sameHead}
 use Rattle.layout.specs.Offsets.{unknownsAt, memoFrom}
-use Rattle.layout.specs.Fields.{byteAt, symbolOf, partCountOf}
+use Rattle.layout.specs.Fields.{byteAt, recordOf}
 use Rattle.layout.specs.Changes.{storeOf}
 use Rattle.layout.specs.Given.{Reads, byteLimit}
+use Rattle.layout.proofs.ViewedFields.{head-byte}
 use Rattle.choices.specs.declared.Choice.{Choice}
 use Rattle.choices.specs.declared.Choice.the-variants.{Waits, Interchange, Memo, Dereference, Identify, Conflict, Decompose, Initiate}
 use Rattle.choices.specs.Choices.{lessIn, choiceByMark, choiceByRecords, choiceOf}
@@ -52,16 +53,12 @@ module _ (v : ℕ) (d : List ℕ) (c x u m : ℕ) where
       mark-entry t = rw (ne-eqb _ _ h, ne-eqb _ _ k, ← e, t)
 
 -- two records
-module _ (d : List ℕ) (i k p q : ℕ) (ep : Reads (symbolOf d i) numberLimit p) (eq : Reads (symbolOf d k) numberLimit q) where
-  pub other-symbol : (p ≡ q → ⊥) → Conflict ≡ choiceByRecords d i k
-  other-symbol h = rw (← ep .same, ← eq .same, ne-eqb p q h)
+module _ (d : List ℕ) (i k : ℕ) (b : Bool) (e : b ≡ sameHead (recordOf d i) (recordOf d k)) where
+  pub same-heads : b ≡ true → Decompose ≡ choiceByRecords d i k
+  same-heads h = rw (← head-byte d i k, ← e, h)
 
-  module _ (h : p ≡ q) (m n : ℕ) (em : Reads (partCountOf d i) byteLimit m) (en : Reads (partCountOf d k) byteLimit n) where
-    pub other-count : (m ≡ n → ⊥) → Conflict ≡ choiceByRecords d i k
-    other-count g = rw (← ep .same, ← eq .same, ← em .same, ← en .same, eq-eqb p q h, ne-eqb m n g)
-
-    pub same-heads : m ≡ n → Decompose ≡ choiceByRecords d i k
-    same-heads g = rw (← ep .same, ← eq .same, ← em .same, ← en .same, eq-eqb p q h, eq-eqb m n g)
+  pub other-heads : b ≡ false → Conflict ≡ choiceByRecords d i k
+  other-heads h = rw (← head-byte d i k, ← e, h)
 
 -- what follows of the sides where one is less, or neither is
 module _ (v a b : ℕ) (t : Bool) where

@@ -72,13 +72,10 @@ fn by_records(run: &[u8], i: usize, k: usize) -> Choice
     requires { ⌜ (length (now run) ≡ runBytes) × (i < mostRecords) × (k < mostRecords) ⌝ }
     ensures { λ r. ⌜ r ≡ choiceByRecords (now (run .entry)) i k ⌝ }
 {
-    if layout::symbol_at(run, i) != layout::symbol_at(run, k) {
-        return Choice::Conflict;
+    if layout::same_head(run, i, k) {
+        return Choice::Decompose;
     }
-    if layout::part_count(run, i) != layout::part_count(run, k) {
-        return Choice::Conflict;
-    }
-    Choice::Decompose
+    Choice::Conflict
 }
 
 // What the statement a = b does at cabinet c, whose store is s.

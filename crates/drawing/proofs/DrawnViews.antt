@@ -22,9 +22,10 @@ use Rattle.layout.specs.Offsets.{clashAt}
 use Rattle.layout.specs.Fields.{byteAt, countOf, itemAt, tableOf, stateOf, runOf}
 use Rattle.rules.specs.Plans.{Plan, wait, plan, planOf}
 use Rattle.rules.specs.Bytes.{Out, out, takenBytes}
+use Rattle.rules.specs.Given.{waitsIn, waitsBytes}
 use Rattle.rules.proofs.Planned.{Planned, waits, goes, planned, ordered}
 use Rattle.rules.proofs.Bridge.{Ready, outcomeOf, bridge, Left, bytesOf, taken-left, item-in-range, place-item, unclashed-view}
-use Rattle.drawing.specs.Draws.{isGo, readyAt, readyFrom, takenPlace, afterTaken, drawnFrom}
+use Rattle.drawing.specs.Draws.{readyAt, readyFrom, takenPlace, afterTaken, drawnFrom}
 
 -- the first that is ready going round
 abbrev around : (ℕ → Bool) → ℕ → ℕ → ℕ
@@ -53,7 +54,7 @@ module _ (d : List ℕ) (r : Ready d) where
   unfolding runOf
   pending-count = from-length (itemAt d) (countOf d) 0
 
-  plan-ready : (j : Item) (p : Plan) → Planned d j p → isGo p ≡ not (isWaiting (effect t (stateOf d) j))
+  plan-ready : (j : Item) (p : Plan) → Planned d j p → not (waitsIn p) ≡ not (isWaiting (effect t (stateOf d) j))
   plan-ready j wait (waits w) = rw (waiting-effect t (stateOf d) (ordered d (r .shaped) (r .sound)) w)
   plan-ready j (plan k ps ch) (goes rule ok) = rw (rule-effect t (ordered d (r .shaped) (r .sound)) rule)
 
@@ -62,7 +63,7 @@ module _ (d : List ℕ) (r : Ready d) where
   item-waits i h = ap (itemWaits t (stateOf d)) (place-item d r i h)
 
   ready-same : (i : ℕ) → i < countOf d → readyAt d i ≡ isReady t q i
-  unfolding readyAt
+  unfolding readyAt waitsBytes
   ready-same i h =
       plan-ready (itemAt d i) (planOf d (itemAt d i)) (planned d (r .shaped) (r .sound) (itemAt d i) (item-in-range d r i h)) ∙ ap not (sym (item-waits i h))
 

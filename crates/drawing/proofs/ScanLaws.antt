@@ -8,19 +8,9 @@ use native.Mathlib.Omega.{arith}
 use borrow.Author.Tests.{lt-ltb, le-ltb}
 use lib.Dec.{ltb}
 use Rattle.base.specs.Choice.{pick, firstOf}
-use Rattle.layout.specs.Fields.{countOf, itemAt}
-use Rattle.rules.specs.Plans.{Plan, wait, plan, planOf}
-use Rattle.rules.specs.Given.{waitsIn, waitsBytes}
-use Rattle.drawing.specs.Draws.{isGo, readyAt, readyFrom}
-
--- an item is ready where it does not wait
-pub ready-waits : (d : List ℕ) (i : ℕ) → readyAt d i ≡ not (waitsBytes d i)
-unfolding readyAt waitsBytes
-ready-waits d i = go (planOf d (itemAt d i))
-  where
-    go : (p : Plan) → isGo p ≡ not (waitsIn p)
-    go wait = refl
-    go (plan k ps ch) = refl
+use Rattle.layout.specs.Fields.{countOf}
+use Rattle.rules.specs.Given.{waitsBytes}
+use Rattle.drawing.specs.Draws.{readyAt, readyFrom}
 
 -- the first of the numbers from i up to n that passes: one of them looked at
 module _ (f : ℕ → Bool) (n i : ℕ) where
@@ -78,7 +68,8 @@ module _ (d : List ℕ) (from round place : ℕ) (h : Scan d from round place) (
 
   module _ (l : place < n) (w : Bool) (e : w ≡ waitsBytes d place) where
     ready : readyAt d place ≡ not w
-    ready = ready-waits d place ∙ ap not (sym e)
+    unfolding readyAt
+    ready = ap not (sym e)
 
     pub scan-waits : not w ≡ false → Scan d from round (place + 1)
     scan-waits t = record { within = omega arith; same = go round ∙ h .same }

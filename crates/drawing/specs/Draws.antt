@@ -1,5 +1,5 @@
 -- The run that the map program makes, on the run's bytes.
-use mathlib.Core.Bool.{Bool, true, false, not}
+use mathlib.Core.Bool.{Bool, true, not}
 use mathlib.Core.List.{List}
 use Prim.Native.Nat.{ℕ, zero, suc, _-_}
 use lib.Dec.{ltb, eqb}
@@ -7,17 +7,13 @@ use Rattle.base.specs.Choice.{pick, firstOf}
 use Rattle.paper.specs.Counts.{mostSteps}
 use Rattle.paper.specs.Programs.{firstState, nextState, drawnPlace}
 use Rattle.layout.specs.Offsets.{clashAt, cabinetsAt, unknownsAt, statementsAt}
-use Rattle.layout.specs.Fields.{byteAt, countOf, itemAt}
-use Rattle.rules.specs.Plans.{Plan, wait, plan, planOf}
+use Rattle.layout.specs.Fields.{byteAt, countOf}
 use Rattle.rules.specs.Bytes.{Out, out, takenBytes}
+use Rattle.rules.specs.Given.{waitsBytes}
 
 -- whether the item at a place does not wait
-abbrev pub isGo : Plan → Bool
-isGo wait = false
-isGo (plan k ps ch) = true
-
 unfoldable pub readyAt : List ℕ → ℕ → Bool
-readyAt d i = isGo (planOf d (itemAt d i))
+readyAt d i = not (waitsBytes d i)
 
 -- "the first one after it, going round, that does not": from i on, else from 0 on; the pending count where all wait
 unfoldable pub readyFrom : List ℕ → ℕ → ℕ

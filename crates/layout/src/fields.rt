@@ -6,8 +6,9 @@ ghost use mathlib.Core.Path.{_≡_};
 ghost use Prim.Native.Nat.{_+_, _<_};
 ghost use lib.ListN.{length};
 ghost use Rattle.paper.specs.Sizes.{mostCabinets, mostUnknowns, mostRecords, mostParts, numberLimit, room};
+ghost use Rattle.paper.specs.Tables.{sameHead};
 ghost use Rattle.layout.specs.Offsets.{clashAt, clashCabinetAt, cabinetsAt, unknownsAt, recordsAt, statementsAt, ownersAt, runBytes, memoFrom};
-ghost use Rattle.layout.specs.Fields.{byteAt, countOf, symbolOf, partCountOf, partOf, itemAt};
+ghost use Rattle.layout.specs.Fields.{byteAt, countOf, symbolOf, partCountOf, partOf, recordOf, itemAt};
 ghost use Rattle.layout.specs.Changes.{storeOf};
 ghost use Rattle.layout.specs.Given.{Reads, byteLimit, countLimit};
 
@@ -142,6 +143,17 @@ pub fn part_at(run: &[u8], i: usize, k: usize) -> usize
         run,
         offsets::TABLE + offsets::RECORD_BYTES * i + offsets::SYMBOL_BYTES + 1 + k,
     )
+}
+
+// Whether records i and k have the same symbol and part count.
+pub fn same_head(run: &[u8], i: usize, k: usize) -> bool
+    requires { ⌜ (length (now run) ≡ runBytes) × (i < mostRecords) × (k < mostRecords) ⌝ }
+    ensures { λ b. ⌜ b ≡ sameHead (recordOf (now (run .entry)) i) (recordOf (now (run .entry)) k) ⌝ }
+{
+    if symbol_at(run, i) != symbol_at(run, k) {
+        return false;
+    }
+    part_count(run, i) == part_count(run, k)
 }
 
 // The owner mark of unknown x.

@@ -28,6 +28,7 @@ pub use fields::pair_at;
 pub use fields::part_at;
 pub use fields::part_count;
 pub use fields::records;
+pub use fields::same_head;
 pub use fields::statements;
 pub use fields::symbol_at;
 pub use fields::unknowns;

@@ -3,15 +3,16 @@
 use mathlib.Core.Path.{_≡_, sym, _∙_}
 use mathlib.Core.Bool.{Bool, true, false, not, _&&_}
 use mathlib.Core.List.{List}
-use Prim.Native.Nat.{ℕ, _+_, _*_, _≤_, _<_}
+use Prim.Native.Nat.{ℕ, _+_, _≤_, _<_}
 use native.Mathlib.Omega.{arith}
 use lib.Dec.{ltb, eqb}
 use borrow.Author.Tests.{le-leb, lt-leb, ne-eqb, not-true, not-false}
 use Rattle.base.specs.Choice.{pick, allBelow}
 use Rattle.base.proofs.Ranges.{below-more, below-all, below-fails}
 use Rattle.paper.specs.Sizes.{mostParts}
-use Rattle.layout.specs.Offsets.{clashAt, clashCabinetAt, cabinetsAt, unknownsAt, recordsAt, statementsAt, countAt, ownersAt, storeFrom, itemFrom}
+use Rattle.layout.specs.Offsets.{clashAt, clashCabinetAt, cabinetsAt, unknownsAt, recordsAt, statementsAt, ownersAt, storeFrom, itemFrom}
 use Rattle.layout.specs.Fields.{byteAt, countOf, partCountOf, partOf}
+use Rattle.layout.specs.Given.{Reads, byteLimit, countLimit}
 use Rattle.layout.specs.Soundness.{lesser, clashOk, sizesOk, partsOk, ownerOk, markOk, itemOk, regionsOk, soundBytes}
 
 -- a loop over the numbers below n, whose test of i says b: it goes on, stops, or has passed all
@@ -91,24 +92,23 @@ pub item-read : (s v r p k c l m : ℕ) (d : List ℕ) (b : Bool)
 item-read s v r p k c l m d b e₀ e₁ e₂ e₃ t = cc
 
 pub clash-read : (s a c : ℕ) (d : List ℕ) (b : Bool)
-    → a ≡ byteAt d clashAt
-    → c ≡ byteAt d clashCabinetAt
+    → Reads (byteAt d clashAt) byteLimit a
+    → Reads (byteAt d clashCabinetAt) byteLimit c
     → b ≡ clashOk s a c
     → b ≡ clashOk s (byteAt d clashAt) (byteAt d clashCabinetAt)
-clash-read s a c d b e₀ e₁ h = cc
+clash-read s a c d b e₀ e₁ h = rw (← e₀ .same, ← e₁ .same) h
 
--- the sizes as read, with the two bytes of the pending count
-module _ (d : List ℕ) (s v r e lo hi : ℕ) (t : Bool) (es : s ≡ byteAt d cabinetsAt) (ev : v ≡ byteAt d unknownsAt)
-    (er : r ≡ byteAt d recordsAt) (ee : e ≡ byteAt d statementsAt) (el : lo ≡ byteAt d countAt)
-    (eh : hi ≡ byteAt d (countAt + 1)) (et : t ≡ sizesOk s v r e (lo + 256 * hi)) where
+-- the sizes as read
+module _ (d : List ℕ) (s v r e n : ℕ) (t : Bool) (es : Reads (byteAt d cabinetsAt) byteLimit s) (ev : Reads (byteAt d unknownsAt) byteLimit v)
+    (er : Reads (byteAt d recordsAt) byteLimit r) (ee : Reads (byteAt d statementsAt) byteLimit e) (en : Reads (countOf d) countLimit n)
+    (et : t ≡ sizesOk s v r e n) where
   sizes-read : t ≡ sizesOk (byteAt d cabinetsAt) (byteAt d unknownsAt) (byteAt d recordsAt) (byteAt d statementsAt) (countOf d)
-  unfolding countOf
-  sizes-read = rw (← es, ← ev, ← er, ← ee, ← el, ← eh) et
+  sizes-read = rw (← es .same, ← ev .same, ← er .same, ← ee .same, ← en .same) et
 
   pub sound-sizes-fail : not t ≡ true → false ≡ soundBytes d
   unfolding soundBytes
   sound-sizes-fail k = and-stops t _ _ sizes-read k
 
-  pub sound-regions : (b : Bool) → not t ≡ false → b ≡ regionsOk s v r (lo + 256 * hi) d → b ≡ soundBytes d
-  unfolding soundBytes countOf
-  sound-regions b k h = and-then t _ _ sizes-read b k (rw (← es, ← ev, ← er, ← el, ← eh) h)
+  pub sound-regions : (b : Bool) → not t ≡ false → b ≡ regionsOk s v r n d → b ≡ soundBytes d
+  unfolding soundBytes
+  sound-regions b k h = and-then t _ _ sizes-read b k (rw (← es .same, ← ev .same, ← er .same, ← en .same) h)

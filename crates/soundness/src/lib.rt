@@ -379,9 +379,7 @@ fn regions_ok(run: &[u8], s: usize, v: usize, r: usize, n: usize) -> bool
     requires { ⌜ (length (now run) ≡ runBytes) × (v ≤ mostUnknowns) × (r ≤ mostRecords) × (n ≤ room) ⌝ }
     ensures { λ b. ⌜ b ≡ regionsOk s v r n (now (run .entry)) ⌝ }
 {
-    let a = wide(run[0]);
-    let c = wide(run[1]);
-    if !clash_ok(s, a, c) {
+    if !clash_ok(s, layout::clash_byte(run), layout::clash_cabinet(run)) {
         return false;
     }
     if !records_ok(run, v, r) {
@@ -404,11 +402,11 @@ pub fn sound(run: &[u8]) -> bool
     requires { ⌜ length (now run) ≡ runBytes ⌝ }
     ensures { λ b. ⌜ b ≡ soundBytes (now (run .entry)) ⌝ }
 {
-    let s = wide(run[2]);
-    let v = wide(run[3]);
-    let r = wide(run[4]);
-    let e = wide(run[5]);
-    let n = wide(run[6]) + 256 * wide(run[7]);
+    let s = layout::cabinets(run);
+    let v = layout::unknowns(run);
+    let r = layout::records(run);
+    let e = layout::statements(run);
+    let n = layout::count(run);
     if !sizes_ok(s, v, r, e, n) {
         return false;
     }

@@ -21,7 +21,7 @@ use Rattle.agreement.proofs.agree_unknowns.Kinds as agree-unknowns-kind
 use Rattle.agreement.proofs.+agree_parts+agree_unknowns.Lts-agree_unknowns as agree-unknowns-lts
 use Rattle.layout.proofs.part_at.Reads as part-at-reads
 use Rattle.layout.proofs.part_count.Reads as part-count-reads
-use Rattle.agreement.proofs.ends.same_head.Reads as same-head-reads
+use Rattle.layout.proofs.same_head.Reads as same-head-reads
 use Rattle.agreement.proofs.met.meet.Reads as meet-reads
 use Rattle.agreement.proofs.met.settled.Reads as settled-reads
 use Rattle.agreement.proofs.+agree_parts+agree_unknowns.{statement}

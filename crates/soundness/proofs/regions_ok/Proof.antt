@@ -5,17 +5,11 @@ use Rattle.soundness.proofs.SoundRegions.{and-stops, and-then, clash-re
 use Rattle.soundness.proofs.regions_ok.Statement.{statement}
 use Rattle.soundness.proofs.regions_ok.Tie as tie
 
-shared-slice-read-wide : tie.Need-shared-slice-read-wide
-shared-slice-read-wide c = search needs
+clash-byte-requires : tie.Need-clash-byte-requires
+clash-byte-requires c κs = search needs
 
-wide-requires : tie.Need-wide-requires
-wide-requires c κs = search needs
-
-shared-slice-read-wide-2 : tie.Need-shared-slice-read-wide-2
-shared-slice-read-wide-2 c = search needs
-
-wide-requires-2 : tie.Need-wide-requires-2
-wide-requires-2 c κs = search needs
+clash-cabinet-requires : tie.Need-clash-cabinet-requires
+clash-cabinet-requires c κs = search needs
 
 clash-ok-requires : tie.Need-clash-ok-requires
 clash-ok-requires c κs = search needs
@@ -63,10 +57,8 @@ pub regions-ok-spec : {M : Type 1} → statement M
 regions-ok-spec =
     tie.close
     (tie.spec
-    shared-slice-read-wide
-    wide-requires
-    shared-slice-read-wide-2
-    wide-requires-2
+    clash-byte-requires
+    clash-cabinet-requires
     clash-ok-requires
     returns
     records-ok-requires

@@ -5,47 +5,20 @@ use Rattle.soundness.proofs.SoundRegions.{sound-regions, sound-sizes-fa
 use Rattle.soundness.proofs.sound.Statement.{statement}
 use Rattle.soundness.proofs.sound.Tie as tie
 
-shared-slice-read-wide : tie.Need-shared-slice-read-wide
-shared-slice-read-wide c = search needs
+cabinets-requires : tie.Need-cabinets-requires
+cabinets-requires c κs = search needs
 
-wide-requires : tie.Need-wide-requires
-wide-requires c κs = search needs
+unknowns-requires : tie.Need-unknowns-requires
+unknowns-requires c κs = search needs
 
-shared-slice-read-wide-2 : tie.Need-shared-slice-read-wide-2
-shared-slice-read-wide-2 c = search needs
+records-requires : tie.Need-records-requires
+records-requires c κs = search needs
 
-wide-requires-2 : tie.Need-wide-requires-2
-wide-requires-2 c κs = search needs
+statements-requires : tie.Need-statements-requires
+statements-requires c κs = search needs
 
-shared-slice-read-wide-3 : tie.Need-shared-slice-read-wide-3
-shared-slice-read-wide-3 c = search needs
-
-wide-requires-3 : tie.Need-wide-requires-3
-wide-requires-3 c κs = search needs
-
-shared-slice-read-wide-4 : tie.Need-shared-slice-read-wide-4
-shared-slice-read-wide-4 c = search needs
-
-wide-requires-4 : tie.Need-wide-requires-4
-wide-requires-4 c κs = search needs
-
-shared-slice-read-wide-5 : tie.Need-shared-slice-read-wide-5
-shared-slice-read-wide-5 c = search needs
-
-wide-requires-5 : tie.Need-wide-requires-5
-wide-requires-5 c κs = search needs
-
-shared-slice-read-wide-6 : tie.Need-shared-slice-read-wide-6
-shared-slice-read-wide-6 c = search needs
-
-wide-requires-6 : tie.Need-wide-requires-6
-wide-requires-6 c κs = search needs
-
-mul-n : tie.Need-mul-n
-mul-n c = search needs
-
-add-n : tie.Need-add-n
-add-n c = search needs
+count-requires : tie.Need-count-requires
+count-requires c κs = search needs
 
 sizes-ok-requires : tie.Need-sizes-ok-requires
 sizes-ok-requires c κs = search needs
@@ -66,20 +39,11 @@ pub sound-spec : {M : Type 1} → statement M
 sound-spec =
     tie.close
     (tie.spec
-    shared-slice-read-wide
-    wide-requires
-    shared-slice-read-wide-2
-    wide-requires-2
-    shared-slice-read-wide-3
-    wide-requires-3
-    shared-slice-read-wide-4
-    wide-requires-4
-    shared-slice-read-wide-5
-    wide-requires-5
-    shared-slice-read-wide-6
-    wide-requires-6
-    mul-n
-    add-n
+    cabinets-requires
+    unknowns-requires
+    records-requires
+    statements-requires
+    count-requires
     sizes-ok-requires
     returns
     regions-ok-requires

@@ -1,8 +1,8 @@
 -- `same_head` meets its contract: symbols first, then part counts.
 use borrow.Author.Needs.{needs}
-use Rattle.agreement.proofs.Chains.{heads-differ, heads-counted}
-use Rattle.agreement.proofs.ends.same_head.Statement.{statement}
-use Rattle.agreement.proofs.ends.same_head.Tie as tie
+use Rattle.layout.proofs.ViewedFields.{heads-differ, heads-counted}
+use Rattle.layout.proofs.fields.same_head.Statement.{statement}
+use Rattle.layout.proofs.fields.same_head.Tie as tie
 
 symbol-at-requires : tie.Need-symbol-at-requires
 symbol-at-requires c κs = search needs
