@@ -1,8 +1,8 @@
 -- Demand 3: two files that say the same end alike, whatever the order of their steps; and every run comes to an end.
-use mathlib.Core.Path.{_≡_, refl, sym, ap, ap₂, _∙_}
-use mathlib.Core.Logic.{_⊎_, inl, inr, ⊎-elim}
+use mathlib.Core.Path.{_≡_, refl, sym, subst, ap, ap₂, _∙_}
+use mathlib.Core.Logic.{_⊎_, inl, inr}
 use mathlib.Core.Bool.{Bool, true, false}
-use mathlib.Core.List.{List, [], _++_}
+use mathlib.Core.List.{List, [], _∷_, _++_}
 use mathlib.Core.Option.{none, some}
 use Prim.Native.Nat.{ℕ, zero, suc, _+_, _-_, _*_, _≤_, _<_}
 use native.Mathlib.Omega.{arith}
@@ -30,7 +30,7 @@ use Rattle.layout.specs.MapRows.{bytesOfRow, mapOf}
 use Rattle.rules.specs.Bytes.{Out, out, stepBytes}
 use Rattle.rules.proofs.Bridge.{Ready, outcomeOf, bridge}
 use Rattle.maps.specs.Bytes.{mapped}
-use Rattle.promises.specs.FromFiles.{Accepted, FromFile, stepped, HasClashed, NothingPending, AtEnd}
+use Rattle.promises.specs.FromFiles.{Accepted, FromFile, stepped, Along, none-left, one-more, HasClashed, NothingPending, AtEnd}
 use Rattle.promises.specs.Demands.{TwoRuns, BothAlike, both-clash, same-map, Demand3}
 use Rattle.promises.proofs.Reaching.{taken-step, file-ok, Viewed, viewed, list-from-file}
 use Rattle.promises.proofs.Derived.{finished-view, map-given}
@@ -134,12 +134,25 @@ some-place s f a n d h = go (eqb (byteAt d clashAt) 0) refl (eqb (countOf d) 0) 
         (some-item-goes (f .table) (f .statements) (file-ok s f a) n (runOf d) (v .reached) (running d e)
         (λ z. eqb-false (countOf d) 0 c (view-empty d z))))
 
--- an end is reached before the step count is passed
+-- from any run of a file an end is reached before the step count is passed
 end-from : (s : List ℕ) (f : File) → Accepted s f → (k n : ℕ) (d : List ℕ) → FromFile s n d
-    → mostSteps (f .table .cabinets) (f .table .unknowns) (length (f .statements)) < n + k → (m : ℕ) × (e : List ℕ) × FromFile s m e × AtEnd e
+    → mostSteps (f .table .cabinets) (f .table .unknowns) (length (f .statements)) < n + k
+    → (is : List ℕ) × (e : List ℕ) × Along d is e × FromFile s (n + length is) e × AtEnd e
 end-from s f a zero n d h l = absurd (let z : ⊥ = omega (arith, step-count s f a n d h) in z)
 end-from s f a (suc k) n d h l =
-    ⊎-elim (λ w. (n, d, h, w)) (λ w. end-from s f a k (suc n) (w .2) (stepped h (w .0) (w .1) (w .3)) (omega arith)) (some-place s f a n d h)
+    go (some-place s f a n d h) (λ i j e z. end-from s f a k (suc n) e (stepped h i j z) (omega arith))
+  where
+    go : AtEnd d ⊎ ((i : ℕ) × (j : ℕ) × (e : List ℕ) × (stepBytes d i ≡ out 0 j e))
+        → ((i j : ℕ) (e : List ℕ) → stepBytes d i ≡ out 0 j e
+        → (is : List ℕ) × (u : List ℕ) × Along e is u × FromFile s (suc n + length is) u × AtEnd u)
+        → (is : List ℕ) × (u : List ℕ) × Along d is u × FromFile s (n + length is) u × AtEnd u
+    go (inl w) later =
+        let c : n ≡ n + length {A = ℕ} [] = omega arith in
+        ([], d, none-left, subst (λ (m : ℕ). FromFile s m d) c h, w)
+    go (inr w) later =
+        let v = later (w .0) (w .1) (w .2) (w .3) in
+        let c : suc n + length (v .0) ≡ n + length (w .0 ∷ v .0) = omega arith in
+        (w .0 ∷ v .0, v .1, one-more (w .0) (w .1) (w .3) (v .2), subst (λ (m : ℕ). FromFile s m (v .1)) c (v .3), v .4)
 
 pub demand-3 : Demand3
 demand-3 =

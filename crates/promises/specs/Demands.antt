@@ -130,6 +130,6 @@ pub record Demand3 : Type 0 where
   -- "and until its end some pending item can be taken."
   pub some-place : (s : List ℕ) (f : File) → Accepted s f → (n : ℕ) (d : List ℕ) → FromFile s n d
       → AtEnd d ⊎ ((i : ℕ) × (k : ℕ) × (e : List ℕ) × (stepBytes d i ≡ out 0 k e))
-  -- so that an end is always reachable
+  -- so that an end can always be reached: from the run as it stands, by accepted steps at some places
   pub end-reachable : (s : List ℕ) (f : File) → Accepted s f → (n : ℕ) (d : List ℕ) → FromFile s n d
-      → (m : ℕ) × (e : List ℕ) × FromFile s m e × AtEnd e
+      → (is : List ℕ) × (e : List ℕ) × Along d is e × FromFile s (n + length is) e × AtEnd e
