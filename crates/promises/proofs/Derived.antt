@@ -51,17 +51,21 @@ unfolding runOf stateOf
 finished-view d p =
     record { unclashed = rw (p .running); empty = ap (λ (n : ℕ). itemsFrom d n 0) (p .empty) }
 
--- the map call on such bytes
-pub map-given : (d : List ℕ) → Ready d → NothingPending d → (lent : List ℕ) → length lent ≡ mapBytes → mapBytesOf d lent ≡ mapped 0 (mapOf (tableOf d) (runOf d))
+-- the map call on such bytes, when they are sound
+pub sound-map : (d : List ℕ) → length d ≡ runBytes → soundBytes d ≡ true → NothingPending d → (lent : List ℕ) → length lent ≡ mapBytes
+    → mapBytesOf d lent ≡ mapped 0 (mapOf (tableOf d) (runOf d))
 unfolding mapBytesOf drawnMap
-map-given d r p lent l =
+sound-map d long s p lent l =
     rw (
-      eq-eqb (length d) runBytes (r .shaped .long),
+      eq-eqb (length d) runBytes long,
       eq-eqb (length lent) mapBytes l,
-      ready-sound d r,
+      s,
       eq-eqb (byteAt d clashAt) 0 (p .running),
       eq-eqb (countOf d) 0 (p .empty),
     )
+
+pub map-given : (d : List ℕ) → Ready d → NothingPending d → (lent : List ℕ) → length lent ≡ mapBytes → mapBytesOf d lent ≡ mapped 0 (mapOf (tableOf d) (runOf d))
+map-given d r p lent l = sound-map d (r .shaped .long) (ready-sound d r) p lent l
 
 -- the rows of a finished run are the statements', one by one
 module _ (t : Table) (qs : List Statement) (r : Run) (is : (x : ℕ) (w : Row) → IsRow t qs x w ↔ (w ≡ mapRow t r x)) where

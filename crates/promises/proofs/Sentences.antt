@@ -52,7 +52,7 @@ use Rattle.promises.specs.FromFiles.{Bytes, Accepted, FromFile, loaded, 
 use Rattle.promises.specs.Sentences.{FromAccepted, pendingOf, pendingNews, isEntry, holders, pendingStatements, SameCabinet, Stands, SameStep, both-refused, both-done, cabinetOf, KeepsCabinet, ProgramEnds, Sentences}
 use Rattle.promises.proofs.KeptBytes.{Smalls, small-at, taken-kept, loaded-kept}
 use Rattle.promises.proofs.Reaching.{ready-of, taken-step, step-taken, taken-refused, all-bytes, file-ok, loaded-is, Viewed, viewed}
-use Rattle.promises.proofs.Derived.{demand-2}
+use Rattle.promises.proofs.Derived.{sound-map, demand-2}
 use Rattle.promises.proofs.Alike.{view-clashed, view-finished, in-paper}
 
 view : {f : File} {n : ℕ} {d : List ℕ} → FromAccepted f n d → Viewed f n d
@@ -400,6 +400,7 @@ sentences =
       owner-stays = owner-stays;
       reached-sound = λ f n d a. (view a .ready .shaped .long, ready-sound d (view a .ready), small-at d (reached-kept (a .file) f (a .accepted) (a .carried)));
       step-sound = step-sound;
+      map-by-hand = sound-map;
       statements-held = statements-held;
       steps-largest = λ f n d a. counts.step-count-largest (f .table) (f .statements) (ok-of a) (view a .reached);
       held-largest = held-largest;

@@ -22,11 +22,13 @@ use Rattle.paper.specs.Sizes.{mostUnknowns}
 use Rattle.layout.specs.Offsets.{recordBytes, clashAt, tableAt, ownersAt, storesAt, memosAt, memoBytes, pendingAt, runBytes, rowBytes, mapBytes}
 use Rattle.layout.specs.Fields.{byteAt, countOf, clashOf, ownerOf, markOf, pairOf, itemAt, itemsFrom, tableOf, runOf}
 use Rattle.layout.specs.Soundness.{soundBytes}
+use Rattle.layout.specs.MapRows.{mapOf}
 use Rattle.statements.specs.Loads.{loadedBytes}
 use Rattle.statements.specs.Writes.{answer, writtenBytes, loadBytes}
 use Rattle.rules.specs.Bytes.{Out, out, stepBytes}
+use Rattle.maps.specs.Bytes.{mapped, mapBytesOf}
 use Rattle.drawing.specs.Draws.{drawnBytes}
-use Rattle.promises.specs.FromFiles.{Bytes, Accepted, FromFile, AtEnd}
+use Rattle.promises.specs.FromFiles.{Bytes, Accepted, FromFile, NothingPending, AtEnd}
 
 -- bytes that n accepted steps make of what an accepted file, which says f, is loaded to
 pub record FromAccepted (f : File) (n : ℕ) (d : List ℕ) : Type 0 where
@@ -136,6 +138,11 @@ pub record Sentences : Type 0 where
       → (length d ≡ runBytes) × (soundBytes d ≡ true) × Bytes d
   pub step-sound : (d : List ℕ) → Bytes d → (i k : ℕ) (e : List ℕ) → stepBytes d i ≡ out 0 k e
       → (length e ≡ runBytes) × (soundBytes e ≡ true) × Bytes e
+  -- "On a run, agreement is taken over owner marks followed to their end, chains always falling (the same open end, or end records
+  -- compared as above, also in a run made by hand)": a sound run with nothing pending, from a file or not, gives the map of its
+  -- owner marks
+  pub map-by-hand : (d : List ℕ) → length d ≡ runBytes → soundBytes d ≡ true → NothingPending d → (lent : List ℕ)
+      → length lent ≡ mapBytes → mapBytesOf d lent ≡ mapped 0 (mapOf (tableOf d) (runOf d))
   -- "nor holds more than 4E + 3SP statements"
   pub statements-held : (f : File) (n : ℕ) (d : List ℕ) → FromAccepted f n d
       → pendingStatements d ≤ mostHeld (f .table .cabinets) (f .table .unknowns) (length (f .statements))
