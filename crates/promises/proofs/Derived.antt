@@ -118,7 +118,7 @@ take-whole [] y = refl
 take-whole (a ∷ x) y = ap (λ (l : List ℕ). a ∷ l) (take-whole x y)
 
 -- what an accepted load and an accepted write say
-load-accepted : (s before d : List ℕ) → loadBytes s before ≡ answer 0 0 d → (f : File) × (at : ℕ) × (readFile s ≡ got f at)
+pub load-accepted : (s before d : List ℕ) → loadBytes s before ≡ answer 0 0 d → (f : File) × (at : ℕ) × (readFile s ≡ got f at)
 unfolding loadBytes
 load-accepted s before d h = go (eqb (length before) runBytes) (readFile s) refl h
   where

@@ -1,22 +1,25 @@
--- Every element stays a byte: what a file is loaded to has only bytes, and an accepted step of bytes leaves bytes.
-use mathlib.Core.Path.{_≡_, subst}
+-- Every element stays a byte: what a file is loaded to has only bytes, and so has what is written of it; and an accepted step of
+-- bytes leaves bytes.
+use mathlib.Core.Path.{_≡_, refl, subst}
 use mathlib.Core.Bool.{Bool, true, false, _&&_}
 use mathlib.Core.List.{List, [], _∷_, _++_, map}
-use Prim.Native.Nat.{ℕ, zero, suc, _+_, _-_, _/_, _≤_, _<_}
+use Prim.Native.Nat.{ℕ, zero, suc, _+_, _-_, _*_, _/_, _%_, _≤_, _<_}
 use native.Mathlib.Nat.{mod-lt}
 use native.Mathlib.Omega.{arith}
+use borrow.Author.Tests.{ltb-true}
 use lib.Dec.{ltb, leb, eqb}
 use lib.ListN.{length, take, drop, set, getD, replicate}
 use Rattle.base.specs.Choice.{pick}
 use Rattle.base.specs.Lists.{All, listFrom}
 use Rattle.base.specs.Regions.{put, get, shifted, gone}
 use Rattle.base.proofs.Elements.{all-append, all-take, all-replicate}
-use Rattle.paper.specs.Sizes.{mostUnknowns, room}
+use Rattle.paper.specs.Sizes.{numberLimit, mostUnknowns, room}
 use Rattle.paper.specs.Rules.{partStatements, newsTo}
 use Rattle.paper.specs.Tables.{Table, Record, RecordOk, TableOk}
 use Rattle.paper.specs.Runs.{Statement, asItem}
 use Rattle.paper.specs.Reached.{FileOk, StatementOk}
-use Rattle.paper.specs.Files.{File}
+use Rattle.paper.specs.Numbers.{groupsOf, numberBytes}
+use Rattle.paper.specs.Files.{File, each, recordBytes, statementBytes, tableBytes, fileBytes}
 use Rattle.paper.specs.declared.Item.{Item}
 use Rattle.paper.specs.declared.Item.the-variants.{Statement as statement, Ask as ask, News as news}
 use Rattle.layout.specs.Offsets.{symbolBytes, clashAt, clashCabinetAt, cabinetsAt, unknownsAt, ownersAt, memosAt, runBytes, storeFrom, memoFrom, itemFrom}
@@ -241,3 +244,57 @@ loaded-kept f ok =
     (all-replicate Small ownersAt 0 (omega arith))
     (all-append Small (replicate (memosAt - ownersAt) 255) (replicate (runBytes - memosAt) 0) (all-replicate Small (memosAt - ownersAt) 255 (omega arith))
     (all-replicate Small (runBytes - memosAt) 0 (omega arith))))))
+
+-- what is written of a file
+abbrev groupsLimit : ℕ → ℕ
+groupsLimit zero = 256
+groupsLimit (suc k) = 128 * groupsLimit k
+
+groups-small : (k n : ℕ) → n < groupsLimit k → Smalls (groupsOf (suc k) n)
+groups-small zero n h = (h, tt)
+groups-small (suc k) n h = go (ltb n 128) refl (groups-small k (n / 128) (omega arith))
+  where
+    go : (b : Bool) → ltb n 128 ≡ b → Smalls (groupsOf (suc k) (n / 128)) → Smalls (pick b (n ∷ []) ((128 + n % 128) ∷ groupsOf (suc k) (n / 128)))
+    go true e later = (omega (arith, ltb-true n 128 e), tt)
+    go false e later = (omega arith, later)
+
+number-small : (n : ℕ) → n < numberLimit → Smalls (numberBytes n)
+unfolding numberBytes
+number-small n h = groups-small 4 n (omega arith)
+
+each-small : {A : Type 0} (w : A → List ℕ) (P : A → Type 0) → ((a : A) → P a → Smalls (w a)) → (l : List A) → All P l → Smalls (each w l)
+each-small w P h [] a = tt
+each-small w P h (x ∷ l) a = all-append Small (w x) (each w l) (h x (a .0)) (each-small w P h l (a .1))
+
+record-small : (v : ℕ) → v ≤ mostUnknowns → (q : Record) → RecordOk v q → Smalls (recordBytes q)
+unfolding recordBytes
+record-small v h q ok =
+    all-append Small (numberBytes (q .symbol)) (numberBytes (length (q .parts)) ++ each numberBytes (q .parts)) (number-small (q .symbol) (ok .symbol))
+    (all-append Small (numberBytes (length (q .parts))) (each numberBytes (q .parts)) (number-small (length (q .parts)) (omega (arith, ok .count)))
+    (each-small numberBytes (λ p. p < v) (λ p l. number-small p (omega arith)) (q .parts) (ok .parts)))
+
+statement-small : (t : Table) → TableOk t → (q : Statement) → StatementOk t q → Smalls (statementBytes q)
+unfolding statementBytes
+statement-small t ok q h =
+    all-append Small (numberBytes (q .cabinet)) (numberBytes (q .left) ++ numberBytes (q .right))
+    (number-small (q .cabinet) (omega (arith, h .cabinet, ok .cabinets)))
+    (all-append Small (numberBytes (q .left)) (numberBytes (q .right)) (number-small (q .left) (omega (arith, h .left, ok .unknowns, ok .count)))
+    (number-small (q .right) (omega (arith, h .right, ok .unknowns, ok .count))))
+
+table-small : (t : Table) → TableOk t → Smalls (tableBytes t)
+unfolding tableBytes
+table-small t ok =
+    all-append Small (numberBytes (t .cabinets)) (numberBytes (t .unknowns) ++ (numberBytes (length (t .records)) ++ each recordBytes (t .records)))
+    (number-small (t .cabinets) (omega (arith, ok .cabinets)))
+    (all-append Small (numberBytes (t .unknowns)) (numberBytes (length (t .records)) ++ each recordBytes (t .records))
+    (number-small (t .unknowns) (omega (arith, ok .unknowns)))
+    (all-append Small (numberBytes (length (t .records))) (each recordBytes (t .records)) (number-small (length (t .records)) (omega (arith, ok .count)))
+    (each-small recordBytes (RecordOk (t .unknowns)) (record-small (t .unknowns) (ok .unknowns)) (t .records) (ok .records))))
+
+pub file-small : (f : File) → FileOk (f .table) (f .statements) → Smalls (fileBytes f)
+unfolding fileBytes
+file-small f ok =
+    all-append Small (tableBytes (f .table)) (numberBytes (length (f .statements)) ++ each statementBytes (f .statements)) (table-small (f .table) (ok .table))
+    (all-append Small (numberBytes (length (f .statements))) (each statementBytes (f .statements))
+    (number-small (length (f .statements)) (omega (arith, ok .count)))
+    (each-small statementBytes (StatementOk (f .table)) (statement-small (f .table) (ok .table)) (f .statements) (ok .statements)))

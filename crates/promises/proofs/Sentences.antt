@@ -1,6 +1,6 @@
 -- The general sentences of document 01, at the bytes: each is the paper's theorem of the view.
 use mathlib.Core.Path.{_≡_, refl, sym, subst, ap, ap₂, _∙_}
-use mathlib.Core.Logic.{_⊎_, inl, inr, ⊎-elim, _≢_}
+use mathlib.Core.Logic.{_⊎_, inl, inr, ⊎-elim, _≢_, _↔_}
 use mathlib.Core.Bool.{Bool, true, false, _&&_}
 use mathlib.Core.List.{List, [], _∷_, _++_}
 use mathlib.Core.Option.{none, some}
@@ -16,6 +16,7 @@ use Rattle.base.proofs.Froms.{from-length}
 use Rattle.base.proofs.Tests.{fst-true}
 use Rattle.base.proofs.Sums.{sum-same}
 use Rattle.paper.specs.Sizes.{longestFile}
+use Rattle.paper.specs.Refusals.{notAsLoaded}
 use Rattle.paper.specs.Tables.{Table, recordAt}
 use Rattle.paper.specs.Runs.{Mark, nothing, initiated, entry, State, Run, initial}
 use Rattle.paper.specs.Rules.{partStatements, Rule, interchange, memo, dereference, identify, conflict, decompose, initiate, win, lose, arrive, Carried}
@@ -30,7 +31,7 @@ use Rattle.paper.specs.SameStatements as one
 use Rattle.paper.specs.SameStatements.{SameItems, SameSet, OneResult}
 use Rattle.paper.specs.declared.Item.{Item}
 use Rattle.paper.specs.declared.Item.the-variants.{News as news}
-use Rattle.paper.proofs.RoundTrip.{no-longer}
+use Rattle.paper.proofs.RoundTrip.{no-longer, written-read}
 use Rattle.paper.proofs.Local as local
 use Rattle.paper.proofs.Bindings as bindings
 use Rattle.paper.proofs.Bindings.{Bound, Tells}
@@ -43,16 +44,16 @@ use Rattle.layout.specs.Soundness.{soundBytes}
 use Rattle.statements.specs.Loads.{loadedBytes}
 use Rattle.statements.specs.Writes.{Answer, answer, asLoaded, fileOf, writtenBytes, loadBytes}
 use Rattle.statements.proofs.Loaded.{LoadedAs, loaded-as}
-use Rattle.statements.proofs.BothWays.{as-loaded-exactly}
+use Rattle.statements.proofs.BothWays.{as-loaded-exactly, as-loaded-view}
 use Rattle.rules.specs.Bytes.{Out, out, takenBytes, stepBytes}
 use Rattle.rules.proofs.Bridge.{Ready, ready-sound, outcomeOf, place-item, Left, bytesOf, taken-left}
 use Rattle.drawing.specs.Draws.{takenPlace, afterTaken, drawnFrom, drawnBytes}
 use Rattle.drawing.proofs.DrawnViews.{DrawnLeft, drawn-same}
 use Rattle.promises.specs.FromFiles.{Bytes, Accepted, FromFile, loaded, stepped}
 use Rattle.promises.specs.Sentences.{FromAccepted, pendingOf, pendingNews, isEntry, holders, pendingStatements, SameCabinet, Stands, SameStep, both-refused, both-done, cabinetOf, KeepsCabinet, ProgramEnds, Sentences}
-use Rattle.promises.proofs.KeptBytes.{Smalls, small-at, taken-kept, loaded-kept}
+use Rattle.promises.proofs.KeptBytes.{Smalls, small-at, taken-kept, loaded-kept, file-small}
 use Rattle.promises.proofs.Reaching.{ready-of, taken-step, step-taken, taken-refused, all-bytes, file-ok, loaded-is, Viewed, viewed}
-use Rattle.promises.proofs.Derived.{sound-map, demand-2}
+use Rattle.promises.proofs.Derived.{sound-map, load-accepted, demand-2}
 use Rattle.promises.proofs.Alike.{view-clashed, view-finished, in-paper}
 
 view : {f : File} {n : ℕ} {d : List ℕ} → FromAccepted f n d → Viewed f n d
@@ -73,14 +74,14 @@ loading-decides-nothing s f a before d h =
     let w = loaded-as f (file-ok s f a) in
     (ap tableOf e ∙ w .table, ap runOf e ∙ w .run)
 
+abbrev number : Answer → ℕ
+number (answer k p e) = k
+
 writer-accepts : (d lent : List ℕ) → Bytes d → (n : ℕ) (m : List ℕ) → writtenBytes d lent ≡ answer 0 n m
     → (f : File) × FileOk (f .table) (f .statements) × (loadedBytes f ≡ d)
 unfolding writtenBytes
 writer-accepts d lent b n m h = go (eqb (length d) runBytes && eqb (length lent) longestFile) refl (soundBytes d) refl (asLoaded d) refl h
   where
-    number : Answer → ℕ
-    number (answer k p e) = k
-
     go : (x : Bool) → (eqb (length d) runBytes && eqb (length lent) longestFile) ≡ x → (y : Bool) → soundBytes d ≡ y → (z : Bool) → asLoaded d ≡ z
         → pick x (pick y (pick z (answer 0 (length (fileBytes (fileOf d))) (paddedFile (fileOf d))) (answer 19 0 lent)) (answer 17 0 lent)) (answer 12 0 lent)
         ≡ answer 0 n m → (f : File) × FileOk (f .table) (f .statements) × (loadedBytes f ≡ d)
@@ -89,6 +90,40 @@ writer-accepts d lent b n m h = go (eqb (length d) runBytes && eqb (length lent)
     go true e true f false g w = absurd (let v : _≡_ {A = ℕ} 19 0 = ap number w in omega arith)
     go true e false f z g w = absurd (let v : _≡_ {A = ℕ} 17 0 = ap number w in omega arith)
     go false e y f z g w = absurd (let v : _≡_ {A = ℕ} 12 0 = ap number w in omega arith)
+
+-- by the test that the writer makes of a sound run
+module _ (d lent : List ℕ) (b : Bytes d) (long : length d ≡ runBytes) (s : soundBytes d ≡ true) (l : length lent ≡ longestFile) where
+  tested-write : (a : Bool) → asLoaded d ≡ a
+      → writtenBytes d lent ≡ pick a (answer 0 (length (fileBytes (fileOf d))) (paddedFile (fileOf d))) (answer notAsLoaded 0 lent)
+  unfolding writtenBytes
+  tested-write a e = rw (eq-eqb (length d) runBytes long, eq-eqb (length lent) longestFile l, s, e)
+
+  writer-refuses : (writtenBytes d lent ≡ answer notAsLoaded 0 lent) ↔ ((f : File) → FileOk (f .table) (f .statements) → loadedBytes f ≢ d)
+  writer-refuses = (there, λ none-is. back none-is (asLoaded d) refl)
+    where
+      there : writtenBytes d lent ≡ answer notAsLoaded 0 lent → (f : File) → FileOk (f .table) (f .statements) → loadedBytes f ≢ d
+      there h f ok e =
+          let a : asLoaded d ≡ true = as-loaded-exactly d long b s .1 (f, ok, e) in
+          let v : _≡_ {A = ℕ} 0 19 = ap number (sym (tested-write true a) ∙ h) in
+          omega arith
+
+      back : ((f : File) → FileOk (f .table) (f .statements) → loadedBytes f ≢ d) → (a : Bool) → asLoaded d ≡ a
+          → writtenBytes d lent ≡ answer notAsLoaded 0 lent
+      back none-is true e = let w = as-loaded-exactly d long b s .0 e in absurd (none-is (w .0) (w .1) (w .2))
+      back none-is false e = tested-write false e
+
+  loads-its-file : (f : File) → FileOk (f .table) (f .statements) → loadedBytes f ≡ d → loadBytes (fileBytes f) d ≡ answer 0 0 d
+  unfolding loadBytes
+  loads-its-file f ok e = rw (eq-eqb (length d) runBytes long, written-read f ok) (ap (answer 0 0) e)
+
+  no-load-leaves : (writtenBytes d lent ≡ answer notAsLoaded 0 lent) ↔ ((r before : List ℕ) → Bytes r → loadBytes r before ≢ answer 0 0 d)
+  no-load-leaves = (
+    λ h r before c e.
+        let w = load-accepted r before d e in
+        let a : Accepted r (w .0) = record { bytes = c; end = w .1; read = w .2 } in
+        writer-refuses .0 h (w .0) (file-ok r (w .0) a) (sym (loaded-is r before d (w .0) (w .1) (w .2) e)),
+    λ none-leaves. writer-refuses .1 (λ f ok e. none-leaves (fileBytes f) d (small-at (fileBytes f) (file-small f ok)) (loads-its-file f ok e)),
+  )
 
 -- All products keep the cabinet
 parts-keep : (c : ℕ) (ps qs : List ℕ) → All (λ j. cabinetOf j ≡ c) (partStatements c ps qs)
@@ -390,6 +425,9 @@ sentences =
       map-length = (refl, refl, refl);
       longest = λ s f a. no-longer s (all-bytes s (a .bytes)) f (a .end) (a .read);
       writer-accepts = writer-accepts;
+      writer-refuses = writer-refuses;
+      no-load-leaves = no-load-leaves;
+      as-loaded-view = λ d b long s. as-loaded-view d long b s;
       loading-decides-nothing = loading-decides-nothing;
       products-keep-cabinet = products-keep-cabinet;
       locality = locality;

@@ -1,7 +1,7 @@
 -- The general sentences of document 01 that the demands do not repeat, each under its words, about the calls' definitions and the
--- bytes of runs reached from accepted files. proofs/Sentences proves them.
+-- bytes of runs, reached from accepted files or made by hand. proofs/Sentences proves them.
 use mathlib.Core.Path.{_≡_}
-use mathlib.Core.Logic.{_≢_}
+use mathlib.Core.Logic.{_≢_, _↔_}
 use mathlib.Core.Bool.{true}
 use mathlib.Core.List.{List, _++_}
 use mathlib.Core.Option.{none, some}
@@ -13,18 +13,20 @@ use Rattle.base.specs.Lists.{without, All, total, sum}
 use Rattle.paper.specs.Runs.{Mark, nothing, initiated, entry, initial}
 use Rattle.paper.specs.Files.{File}
 use Rattle.paper.specs.Reached.{FileOk}
+use Rattle.paper.specs.Replies.{AsLoaded}
 use Rattle.paper.specs.Counts.{mostHeld, isStatement, newsOf}
 use Rattle.paper.specs.SameStatements.{SameItems, SameSet}
 use Rattle.paper.specs.Programs.{printedRun, printed}
 use Rattle.paper.specs.declared.Item.{Item}
 use Rattle.paper.specs.declared.Item.the-variants.{Statement as statement, Ask as ask, News as news}
-use Rattle.paper.specs.Sizes.{mostUnknowns}
+use Rattle.paper.specs.Sizes.{mostUnknowns, longestFile}
+use Rattle.paper.specs.Refusals.{notAsLoaded}
 use Rattle.layout.specs.Offsets.{recordBytes, clashAt, tableAt, ownersAt, storesAt, memosAt, memoBytes, pendingAt, runBytes, rowBytes, mapBytes}
 use Rattle.layout.specs.Fields.{byteAt, countOf, clashOf, ownerOf, markOf, pairOf, itemAt, itemsFrom, tableOf, runOf}
 use Rattle.layout.specs.Soundness.{soundBytes}
 use Rattle.layout.specs.MapRows.{mapOf}
 use Rattle.statements.specs.Loads.{loadedBytes}
-use Rattle.statements.specs.Writes.{answer, writtenBytes, loadBytes}
+use Rattle.statements.specs.Writes.{answer, asLoaded, writtenBytes, loadBytes}
 use Rattle.rules.specs.Bytes.{Out, out, stepBytes}
 use Rattle.maps.specs.Bytes.{mapped, mapBytesOf}
 use Rattle.drawing.specs.Draws.{drawnBytes}
@@ -108,6 +110,15 @@ pub record Sentences : Type 0 where
   -- "The writer accepts a run only as loading some file leaves it"
   pub writer-accepts : (d lent : List ℕ) → Bytes d → (n : ℕ) (m : List ℕ) → writtenBytes d lent ≡ answer 0 n m
       → (f : File) × FileOk (f .table) (f .statements) × (loadedBytes f ≡ d)
+  -- 19: "write asked of a sound run that isn't as loaded": one that no accepted file is loaded to
+  pub writer-refuses : (d lent : List ℕ) → Bytes d → length d ≡ runBytes → soundBytes d ≡ true → length lent ≡ longestFile
+      → (writtenBytes d lent ≡ answer notAsLoaded 0 lent) ↔ ((f : File) → FileOk (f .table) (f .statements) → loadedBytes f ≢ d)
+  -- and so one that no accepted load leaves
+  pub no-load-leaves : (d lent : List ℕ) → Bytes d → length d ≡ runBytes → soundBytes d ≡ true → length lent ≡ longestFile
+      → (writtenBytes d lent ≡ answer notAsLoaded 0 lent) ↔ ((s before : List ℕ) → Bytes s → loadBytes s before ≢ answer 0 0 d)
+  -- the test of a sound run's bytes is the paper's of the run that they hold
+  pub as-loaded-view : (d : List ℕ) → Bytes d → length d ≡ runBytes → soundBytes d ≡ true
+      → (asLoaded d ≡ true) ↔ AsLoaded (tableOf d) (runOf d)
   -- "Loading decides nothing: it leaves a run that is running, with S, V, R, E and the records as read, every mark 255, every memo
   -- byte 0, and as pending items exactly the file's statements, cabinet, left and right as read, in file order."
   pub loading-decides-nothing : (s : List ℕ) (f : File) → Accepted s f → (before d : List ℕ) → loadBytes s before ≡ answer 0 0 d

@@ -17,6 +17,7 @@ use Rattle.paper.specs.Tables.{Record, RecordOk}
 use Rattle.paper.specs.Runs.{Statement, Run, asItem, initial, Sound}
 use Rattle.paper.specs.Files.{File, got, readFile, fileBytes, paddedFile}
 use Rattle.paper.specs.Reached.{StatementOk, FileOk}
+use Rattle.paper.specs.Replies.{AsLoaded}
 use Rattle.paper.specs.declared.Item.{Item}
 use Rattle.paper.proofs.RoundTrip.{written-read}
 use Rattle.layout.specs.Offsets.{symbolBytes, cabinetsAt, countAt, ownersAt, memosAt, runBytes, recordFrom, itemFrom}
@@ -190,4 +191,12 @@ pub as-loaded-exactly : (d : List ℕ) → length d ≡ runBytes → Bytes d →
 as-loaded-exactly d long b s = (
   λ a. (fileOf d, own-file-ok d long b s a, loads-back d long b s a),
   λ w. subst (λ (e : List ℕ). asLoaded e ≡ true) (w .2) (as-loaded-in (loadedBytes (w .0)) (loaded-passes (w .0) (w .1))),
+)
+
+-- and exactly when their view is, in the paper
+pub as-loaded-view : (d : List ℕ) → length d ≡ runBytes → Bytes d → soundBytes d ≡ true → (asLoaded d ≡ true) ↔ AsLoaded (tableOf d) (runOf d)
+unfolding fileOf
+as-loaded-view d long b s = (
+  λ a. record { statements = fileOf d .statements; ok = own-file-ok d long b s a; is = as-loaded-run d (as-loaded-out d a) },
+  λ w. as-loaded-in d (initial-as-loaded d (w .statements) (w .is) (canonical d long (tested d s))),
 )
