@@ -24,12 +24,12 @@ abbrev pub byEntry : Bool → Table → Option ℕ → ℕ → (ℕ → End) →
 byEntry true t o a f = byOwner o a f
 byEntry false t o a f = atRecord (recordAt t a)
 
--- at most so many marks from an entry on
+-- from an entry on, at most so many entries looked at; one that is reached with none left counts as open
 abbrev pub followed : Table → (ℕ → Option ℕ) → ℕ → ℕ → End
 followed t o zero a = atOpen a
 followed t o (suc n) a = byEntry (isUnknown t a) t (o a) a (λ v. followed t o n v)
 
--- "owner marks followed to their end, chains always falling": V marks are enough
+-- "owner marks followed to their end, chains always falling": at most V unknowns and a record
 unfoldable pub endOf : Table → (ℕ → Option ℕ) → ℕ → End
 endOf t o a = followed t o (suc (t .unknowns)) a
 

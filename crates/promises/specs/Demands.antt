@@ -1,5 +1,5 @@
 -- The three demands, each under its sentence, about the definitions that the public calls' contracts cite: loadBytes,
--- stepBytes, stepsBytes, mapBytesOf and writtenBytes. proofs/Fixed, proofs/Derived and proofs/Alike prove them.
+-- statementSpan, stepBytes, stepsBytes, mapBytesOf and writtenBytes. proofs/Fixed, proofs/Derived and proofs/Alike prove them.
 use mathlib.Core.Path.{_≡_}
 use mathlib.Core.Logic.{_⊎_, _↔_}
 use mathlib.Core.Bool.{true, _&&_}
