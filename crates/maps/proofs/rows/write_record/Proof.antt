@@ -35,7 +35,12 @@ same-length : tie.Need-same-length
 same-length c = search record-length
 
 returns : tie.Need-returns
-returns c = search record-put
+returns c =
+    let pre = c .before .before .before .before .before .before .before .before .before .before .before .before .pre in
+    let count = c .before .before .before .before .before .before .before .before .before .part-count .ensures in
+    let symbol = c .before .before .before .before .before .before .before .symbol-at .ensures in
+    let head = c .before .before .before .before .before .before .put-head .ensures in
+    record-put _ _ _ _ _ _ _ _ (pre .0) (pre .2) (pre .3) symbol count head _ (c .before .before .write-lows .ensures)
 
 pub write-record-spec : {M : Type 1} → statement M
 write-record-spec =
