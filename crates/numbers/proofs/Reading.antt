@@ -1,4 +1,4 @@
--- Laws of reading: one for each way out of `groups_from` and `ranged_at`, and what a number that was read keeps to.
+-- Laws of reading: one for each way out of `number_at` and `ranged_at`, and what a number that was read keeps to.
 use Prim.Native.Nat.{ℕ, zero, suc, _+_, _-_, _*_, _%_, _≤_, _<_}
 use mathlib.Core.Path.{_≡_, refl, sym, ap, _∙_}
 use mathlib.Core.Logic.{_⊎_, inl, inr, ⊎-elim}
@@ -6,6 +6,7 @@ use mathlib.Core.List.{List}
 use mathlib.Core.Bool.{Bool, true, false, _&&_}
 use lib.ListN.{length, getD}
 use lib.Dec.{ltb, leb}
+use native.Mathlib.Nat.{add-assoc, mul-add, mul-assoc, mul-le-mul-left}
 use native.Mathlib.Omega.{arith}
 use mir.Syntax.{w64}
 use mir.Val.{Fits}
@@ -19,9 +20,9 @@ use Rattle.paper.specs.declared.Num.{Num}
 use Rattle.paper.specs.declared.Num.the-variants.{Got, Refused}
 use Rattle.numbers.proofs.Limits.{limit, limit-some, limit-up}
 
--- the ways out of `groups_from`: at most `left` groups at `at` of a number that starts at `from`
+-- what the groups from `at` on come to: at most `left` groups at `at` of a number that starts at `from`
 module _ (left top least : ℕ) (s : List ℕ) (from at : ℕ) where
-  pub no-group-left : left ≡ 0 → Refused badNumber from ≡ groupsFrom left top least s from at
+  no-group-left : left ≡ 0 → Refused badNumber from ≡ groupsFrom left top least s from at
   unfolding groupsFrom
   no-group-left e = rw e refl
 
@@ -29,39 +30,27 @@ module _ (left top least : ℕ) (s : List ℕ) (from at : ℕ) where
     one-at-least : left ≡ suc (left - 1)
     one-at-least = omega arith
 
-    pub file-ends : length s ≤ at → Refused fileEnds from ≡ groupsFrom left top least s from at
+    file-ends : length s ≤ at → Refused fileEnds from ≡ groupsFrom left top least s from at
     unfolding groupsFrom
     file-ends h = rw one-at-least (simp (le-ltb _ _ h))
 
     module _ (inside : at < length s) (b : ℕ) (e : b ≡ getD s at 0) where
-      pub not-shortest : b < 128 → b < least → Refused badNumber from ≡ groupsFrom left top least s from at
+      not-shortest : b < 128 → b < least → Refused badNumber from ≡ groupsFrom left top least s from at
       unfolding groupsFrom
       not-shortest h1 h2 = rw (one-at-least, ← e) (simp (lt-ltb _ _ inside, lt-ltb _ _ h1, lt-leb _ _ h2))
 
       module _ (most : ℕ) (m : most ≡ largest (left - 1) top) (h1 : b < 128) (h2 : least ≤ b) where
-        pub too-large : most < b → Refused badNumber from ≡ groupsFrom left top least s from at
+        too-large : most < b → Refused badNumber from ≡ groupsFrom left top least s from at
         unfolding groupsFrom
         too-large h3 = rw (one-at-least, ← e, ← m) (simp (lt-ltb _ _ inside, lt-ltb _ _ h1, le-leb _ _ h2, lt-leb _ _ h3))
 
-        pub group-ends : b ≤ most → Got b (at + 1) ≡ groupsFrom left top least s from at
+        group-ends : b ≤ most → Got b (at + 1) ≡ groupsFrom left top least s from at
         unfolding groupsFrom
         group-ends h3 = rw (one-at-least, ← e, ← m) (simp (lt-ltb _ _ inside, lt-ltb _ _ h1, le-leb _ _ h2, le-leb _ _ h3))
 
-      module _ (h : 128 ≤ b) (x : Num) (f : x ≡ groupsFrom (left - 1) top 1 s from (at + 1)) where
-        another-follows : above (b % 128) x ≡ groupsFrom left top least s from at
-        unfolding groupsFrom
-        another-follows = rw (one-at-least, ← e, ← f) (simp (lt-ltb _ _ inside, le-ltb _ _ h))
-
-        pub more-got : (n next : ℕ) → x ≡ Got n next → Got (b % 128 + 128 * n) next ≡ groupsFrom left top least s from at
-        more-got n next g = ap (above (b % 128)) (sym g) ∙ another-follows
-
-        pub more-refused : (k p : ℕ) → x ≡ Refused k p → x ≡ groupsFrom left top least s from at
-        more-refused k p g = g ∙ ap (above (b % 128)) (sym g) ∙ another-follows
-
--- a number of one group
-pub one-group-read : (s : List ℕ) (at b : ℕ) → at < length s → b ≡ getD s at 0 → b < 128 → Got b (at + 1) ≡ numberAt s at
-unfolding numberAt
-one-group-read s at b inside e h = group-ends mostGroups topGroup 0 s at at (omega arith) inside b e 127 refl h (omega arith) (omega arith)
+      another-follows : 128 ≤ b → (x : Num) → x ≡ groupsFrom (left - 1) top 1 s from (at + 1) → above (b % 128) x ≡ groupsFrom left top least s from at
+      unfolding groupsFrom
+      another-follows h x f = rw (one-at-least, ← e, ← f) (simp (lt-ltb _ _ inside, le-ltb _ _ h))
 
 -- the way out of `largest_end` where a group may follow
 pub not-the-last : (k top : ℕ) → (k ≡ 0 → ⊥) → 127 ≡ largest k top
@@ -124,26 +113,99 @@ module _ (top : ℕ) (s : List ℕ) (from : ℕ) where
       let i : Inside k top s (at + 1) m next = groups-inside k 1 (at + 1) m next g in
       record { small = omega arith; past = omega arith; ends = i .ends }
 
--- what the rest of a number gave leaves room in 64 bits for one more group
-module _ (left : ℕ) (s : List ℕ) (from at : ℕ) (most : left ≤ mostGroups) (x : Num) (f : x ≡ groupsFrom (left - 1) topGroup 1 s from (at + 1)) (n next : ℕ) (g : x ≡ Got n next) where
-  rest-small : n < limit 3 topGroup
-  unfolding groupsFrom
-  rest-small = go (left - 1) (omega arith) (sym f ∙ g)
-    where
-      go : (l : ℕ) → l < mostGroups → groupsFrom l topGroup 1 s from (at + 1) ≡ Got n next → n < limit 3 topGroup
-      go zero h e = never e
-      go (suc k) h e =
-          let w = groups-inside topGroup s from k 1 (at + 1) n next e in
-          let l = limit-up topGroup k 3 (omega arith) in
-          omega arith
+-- groups that were read before what follows: they come to n, and what follows counts `scale` times
+abbrev pub joined : ℕ → ℕ → Num → Num
+joined n scale (Got m next) = Got (n + scale * m) next
+joined n scale (Refused k p) = Refused k p
 
-  pub product-fits : Fits w64 (128 * n)
-  unfolding limit
-  product-fits = let h = rest-small in omega arith
+-- the loop of `number_at`: the groups before `here` are read
+pub record SoFar (s : List ℕ) (at n scale least left here : ℕ) : Type 0 where
+  pub same : joined n scale (groupsFrom left topGroup least s at here) ≡ numberAt s at
+  pub few : left ≤ mostGroups
+  pub scaled : scale ≡ limit (mostGroups - left) 0
+  pub below : n < scale
 
-  pub sum-fits : (b : ℕ) → Fits w64 (b % 128 + 128 * n)
+pub none-read : (s : List ℕ) (at : ℕ) → SoFar s at 0 1 0 mostGroups at
+unfolding numberAt limit
+none-read s at = record { same = alone (groupsFrom mostGroups topGroup 0 s at at); few = omega arith; scaled = refl; below = omega arith }
+  where
+    alone : (x : Num) → joined 0 1 x ≡ x
+    alone (Got m next) = ap (λ (k : ℕ). Got k next) (let z : 0 + 1 * m ≡ m = omega arith in z)
+    alone (Refused k p) = refl
+
+-- a group before what follows joins those before it
+joined-above : (n scale d : ℕ) (x : Num) → joined n scale (above d x) ≡ joined (n + scale * d) (scale * 128) x
+joined-above n scale d (Got m next) =
+    ap (λ (k : ℕ). Got k next)
+    (ap (λ (k : ℕ). n + k) (mul-add scale d (128 * m) ∙ ap (λ (k : ℕ). scale * d + k) (sym (mul-assoc scale 128 m))) ∙ sym (add-assoc n (scale * d) (scale * 128 * m)))
+joined-above n scale d (Refused k p) = refl
+
+module _ (s : List ℕ) (at n scale least left here : ℕ) (h : SoFar s at n scale least left here) where
+  -- what is read of the rest is what is read of all
+  as-read : (x : Num) → x ≡ groupsFrom left topGroup least s at here → joined n scale x ≡ numberAt s at
+  as-read x e = ap (joined n scale) e ∙ h .same
+
+  pub all-read : left ≤ 0 → Refused badNumber at ≡ numberAt s at
+  all-read l = as-read (Refused badNumber at) (no-group-left left topGroup least s at here (omega arith))
+
+  module _ (l : 0 < left) where
+    some : left ≡ 0 → ⊥
+    some e = omega arith
+
+    pub cut-short : length s ≤ here → Refused fileEnds at ≡ numberAt s at
+    cut-short k = as-read (Refused fileEnds at) (file-ends left topGroup least s at here some k)
+
+    module _ (inside : here < length s) (b : ℕ) (e : b ≡ getD s here 0) where
+      pub longer-than-need : b < 128 → b < least → Refused badNumber at ≡ numberAt s at
+      longer-than-need h1 h2 = as-read (Refused badNumber at) (not-shortest left topGroup least s at here some inside b e h1 h2)
+
+      module _ (h1 : b < 128) (h2 : least ≤ b) (most : ℕ) (m : most ≡ largest (left - 1) topGroup) where
+        pub over-the-limit : most < b → Refused badNumber at ≡ numberAt s at
+        over-the-limit h3 = as-read (Refused badNumber at) (too-large left topGroup least s at here some inside b e most m h1 h2 h3)
+
+        pub number-ends : b ≤ most → Got (n + scale * b) (here + 1) ≡ numberAt s at
+        number-ends h3 = as-read (Got b (here + 1)) (group-ends left topGroup least s at here some inside b e most m h1 h2 h3)
+
+  -- the products and sums fit into 64 bits
+  small-scale : 0 < left → scale ≤ limit 4 0
+  small-scale l = let k = limit-up 0 (mostGroups - left) 4 (omega arith) in omega (arith, h .scaled)
+
+  module _ (l : 0 < left) (b : ℕ) (k : b < 128) where
+    small-product : scale * b ≤ scale * 127
+    small-product = mul-le-mul-left scale (let z : b ≤ 127 = omega arith in z)
+
+    pub product-fits : Fits w64 (scale * b)
+    unfolding limit
+    product-fits = let x = small-scale l in let y = small-product in omega arith
+
+    pub sum-fits : Fits w64 (n + scale * b)
+    unfolding limit
+    sum-fits = let x = small-scale l in let y = small-product in omega (arith, h .below)
+
+  module _ (l : 0 < left) (b : ℕ) where
+    pub group-product-fits : Fits w64 (scale * (b % 128))
+    group-product-fits = product-fits l (b % 128) (omega arith)
+
+    pub group-sum-fits : Fits w64 (n + scale * (b % 128))
+    group-sum-fits = sum-fits l (b % 128) (omega arith)
+
+  pub scale-fits : 0 < left → Fits w64 (scale * 128)
   unfolding limit
-  sum-fits b = let h = rest-small in omega arith
+  scale-fits l = let x = small-scale l in omega arith
+
+  pub one-more : (b : ℕ) → 0 < left → here < length s → b ≡ getD s here 0 → 128 ≤ b
+      → SoFar s at (n + scale * (b % 128)) (scale * 128) 1 (left - 1) (here + 1)
+  unfolding limit
+  one-more b l inside e k =
+      let q : mostGroups - (left - 1) ≡ suc (mostGroups - left) = omega (arith, h .few) in
+      let y = small-product l (b % 128) (omega arith) in
+      record {
+        same = sym (joined-above n scale (b % 128) (groupsFrom (left - 1) topGroup 1 s at (here + 1)))
+            ∙ as-read (above (b % 128) (groupsFrom (left - 1) topGroup 1 s at (here + 1))) (another-follows left topGroup least s at here (some l) inside b e k (groupsFrom (left - 1) topGroup 1 s at (here + 1)) refl);
+        few = omega (arith, h .few);
+        scaled = rw q (omega (arith, h .scaled));
+        below = omega (arith, h .below);
+      }
 
 -- the ways out of `ranged_at`
 module _ (low below j : ℕ) (s : List ℕ) (at : ℕ) (x : Num) (e : x ≡ numberAt s at) where

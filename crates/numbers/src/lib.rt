@@ -6,8 +6,8 @@ use paper::sizes;
 ghost use mathlib.Core.Path.{_≡_};
 ghost use Prim.Native.Nat.{_+_, _≤_, _<_};
 ghost use lib.ListN.{length};
-ghost use Rattle.paper.specs.Sizes.{mostGroups, topGroup, numberLimit};
-ghost use Rattle.paper.specs.Numbers.{largest, groupsFrom, numberAt, rangedAt, numberBytes};
+ghost use Rattle.paper.specs.Sizes.{topGroup, numberLimit};
+ghost use Rattle.paper.specs.Numbers.{largest, numberAt, rangedAt, numberBytes};
 ghost use Rattle.numbers.specs.Written.{Written};
 
 // A byte as a wide number, so that its readers need not show that it fits.
@@ -24,46 +24,37 @@ fn largest_end(more: usize) -> u64
     if more == 0 { sizes::TOP_GROUP } else { 127 }
 }
 
-// At most `left` groups at `at` of a number that starts at `from`. The ending group is at least `least`: 0 for a number's
-// first group and 1 for a later one, which gives the shortest form.
-fn groups_from(s: &[u8], from: usize, at: usize, left: usize, least: u64) -> Num
-    requires { ⌜ left ≤ mostGroups ⌝ }
-    ensures { λ r. ⌜ r ≡ groupsFrom left topGroup least (now (s .entry)) from at ⌝ }
-{
-    if left == 0 {
-        return Num::Refused(refusal::BAD_NUMBER, from);
-    }
-    if s.len() <= at {
-        return Num::Refused(refusal::FILE_ENDS, from);
-    }
-    let group = wide(s[at]);
-    if group < 128 {
-        if group < least {
-            return Num::Refused(refusal::BAD_NUMBER, from);
-        }
-        if largest_end(left - 1) < group {
-            return Num::Refused(refusal::BAD_NUMBER, from);
-        }
-        return Num::Got(group, at + 1);
-    }
-    let rest = groups_from(s, from, at + 1, left - 1, 1);
-    let Num::Got(n, next) = rest else {
-        return rest;
-    };
-    Num::Got(group % 128 + 128 * n, next)
-}
-
-// The number at `at`. Most have one group: these are read at once.
+// The number at `at`. The groups before `here` come to n; what follows counts `scale` times and has at most `left` groups. The
+// ending group is at least `least`: 0 for a number's first group and 1 for a later one, which gives the shortest form.
 pub fn number_at(s: &[u8], at: usize) -> Num
     ensures { λ r. ⌜ r ≡ numberAt (now (s .entry)) at ⌝ }
 {
-    if at < s.len() {
-        let only = wide(s[at]);
-        if only < 128 {
-            return Num::Got(only, at + 1);
+    let mut n: u64 = 0;
+    let mut scale: u64 = 1;
+    let mut least: u64 = 0;
+    let mut left: usize = sizes::MOST_GROUPS;
+    let mut here = at;
+    while left > 0 {
+        if s.len() <= here {
+            return Num::Refused(refusal::FILE_ENDS, at);
         }
+        let group = wide(s[here]);
+        if group < 128 {
+            if group < least {
+                return Num::Refused(refusal::BAD_NUMBER, at);
+            }
+            if largest_end(left - 1) < group {
+                return Num::Refused(refusal::BAD_NUMBER, at);
+            }
+            return Num::Got(n + scale * group, here + 1);
+        }
+        n += scale * (group % 128);
+        scale *= 128;
+        least = 1;
+        left -= 1;
+        here += 1;
     }
-    groups_from(s, at, at, sizes::MOST_GROUPS, 0)
+    Num::Refused(refusal::BAD_NUMBER, at)
 }
 
 // The number at `at`, refused by `refusal` unless it is at least `low` and below `below`.
