@@ -7,9 +7,9 @@ use native.Mathlib.Omega.{arith}
 use lib.ListN.{length, length-append, take-append-drop}
 use Rattle.base.specs.Lists.{listFrom}
 use Rattle.base.specs.Regions.{put}
+use Rattle.base.specs.Puts.{PutFrom}
 use Rattle.base.proofs.Regions.{length-put}
 use Rattle.paper.specs.Files.{each}
-use Rattle.layout.specs.Puts.{PutFrom}
 use Rattle.layout.proofs.ChangeLaws.{put-then}
 
 plus-zero : (n : ℕ) → n + 0 ≡ n

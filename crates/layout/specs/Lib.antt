@@ -3,5 +3,4 @@ pub mod Fields
 pub mod Soundness
 pub mod Changes
 pub mod MapRows
-pub mod Puts
 pub mod Given

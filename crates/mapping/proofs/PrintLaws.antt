@@ -10,6 +10,7 @@ use borrow.Author.Tests.{eq-eqb, ne-eqb}
 use lib.ListN.{length}
 use mir.Syntax.{w8}
 use mir.Val.{Fits}
+use Rattle.base.specs.Puts.{PutFrom}
 use Rattle.paper.specs.Sizes.{mostUnknowns}
 use Rattle.paper.specs.Tables.{Table, TableOk}
 use Rattle.paper.specs.Files.{File, Read, got, fault, readFile}
@@ -27,7 +28,6 @@ use Rattle.statements.proofs.Loaded.{loaded-bytes-sound}
 use Rattle.rules.proofs.Bridge.{ready-sound}
 use Rattle.maps.specs.Bytes.{mapped, drawnMap, mapBytesOf}
 use Rattle.drawing.specs.Draws.{drawnBytes}
-use Rattle.layout.specs.Puts.{PutFrom}
 use Rattle.printing.specs.Prints.{mapPrinted}
 use Rattle.printing.proofs.MapText.{map-printed}
 use Rattle.promises.specs.FromFiles.{Accepted, AtEnd}

@@ -6,13 +6,13 @@ ghost use Prim.Native.Nat.{_≤_};
 ghost use lib.ListN.{length};
 ghost use mathlib.Core.Path.{_≡_};
 ghost use mathlib.Core.Bool.{true};
+ghost use Rattle.base.specs.Puts.{PutFrom};
 ghost use Rattle.paper.specs.Programs.{printedRun, printed};
 ghost use Rattle.layout.specs.Offsets.{runBytes};
 ghost use Rattle.layout.specs.Fields.{tableOf, runOf, clashOf};
 ghost use Rattle.layout.specs.Soundness.{soundBytes};
 ghost use Rattle.promises.specs.FromFiles.{AtEnd};
 ghost use Rattle.mapping.specs.Runs.{Ran};
-ghost use Rattle.layout.specs.Puts.{PutFrom};
 ghost use Rattle.printing.specs.Prints.{mostPrinted};
 
 // The last number of the longest file can start at 835, and five bytes may have to be seen to refuse it.

@@ -11,9 +11,9 @@ use native.Mathlib.Omega.{arith}
 use borrow.Author.Tests.{lt-ltb, le-ltb}
 use Rattle.base.specs.Choice.{pick}
 use Rattle.base.specs.Regions.{put}
+use Rattle.base.specs.Puts.{PutFrom}
 use Rattle.paper.specs.Sizes.{numberLimit}
 use Rattle.paper.specs.Numbers.{groupsOf, numberBytes}
-use Rattle.numbers.specs.Written.{Written}
 use Rattle.numbers.proofs.Limits.{limit}
 
 -- a store keeps the length
@@ -58,7 +58,7 @@ module _ (at n : ℕ) (d : List ℕ) (fits : at + length (numberBytes n) ≤ len
   pub room-for-one : at < length d
   room-for-one = omega (arith, bytes-some n)
 
-  pub short-written : n < 128 → Written at n d (set d at n) (at + 1)
+  pub short-written : n < 128 → PutFrom at (numberBytes n) d (set d at n) (at + 1)
   unfolding put
   short-written h = record { past = rw (bytes-short n h) refl; bytes = rw (bytes-short n h) (sets-eq (n ∷ []) d at (rw (bytes-short n h) at fits)) }
 
@@ -69,7 +69,8 @@ module _ (at n : ℕ) (d : List ℕ) (fits : at + length (numberBytes n) ≤ len
     pub room-for-rest : (v : ℕ) → at + 1 + length (numberBytes (n / 128)) ≤ length (set d at v)
     room-for-rest v = rw length-set room
 
-    pub long-written : (after : List ℕ) (next : ℕ) → Written (at + 1) (n / 128) (set d at (128 + n % 128)) after next → Written at n d after next
+    pub long-written : (after : List ℕ) (next : ℕ) → PutFrom (at + 1) (numberBytes (n / 128)) (set d at (128 + n % 128)) after next
+        → PutFrom at (numberBytes n) d after next
     long-written after next w =
         record {
           past = rw (bytes-long n large small) (omega (arith, w .past));

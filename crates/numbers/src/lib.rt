@@ -6,9 +6,9 @@ use paper::sizes;
 ghost use mathlib.Core.Path.{_≡_};
 ghost use Prim.Native.Nat.{_+_, _≤_, _<_};
 ghost use lib.ListN.{length};
+ghost use Rattle.base.specs.Puts.{PutFrom};
 ghost use Rattle.paper.specs.Sizes.{topGroup, numberLimit};
 ghost use Rattle.paper.specs.Numbers.{largest, numberAt, rangedAt, numberBytes};
-ghost use Rattle.numbers.specs.Written.{Written};
 
 // A byte as a wide number, so that its readers need not show that it fits.
 fn wide(x: u8) -> u64
@@ -78,7 +78,7 @@ pub fn ranged_at(s: &[u8], at: usize, low: u64, below: u64, refusal: usize) -> N
 // the paper's numberLimit has at most mostGroups of them.
 pub fn write_number(buf: &mut [u8], at: usize, n: u64) -> usize
     requires { ⌜ (n < numberLimit) × (at + length (numberBytes n) ≤ length (now buf)) ⌝ }
-    ensures { λ r. ⌜ Written at n (now (buf .entry)) (now (buf .exit)) r ⌝ }
+    ensures { λ r. ⌜ PutFrom at (numberBytes n) (now (buf .entry)) (now (buf .exit)) r ⌝ }
 {
     if n < 128 {
         buf[at] = n as u8;

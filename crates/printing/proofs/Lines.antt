@@ -6,11 +6,11 @@ use native.Mathlib.Omega.{arith}
 use borrow.Author.Tests.{eq-eqb, ne-eqb}
 use lib.ListN.{length, length-append}
 use Rattle.base.specs.Lists.{listFrom}
+use Rattle.base.specs.Puts.{PutFrom}
 use Rattle.paper.specs.Sizes.{mostParts, numberLimit}
 use Rattle.paper.specs.Files.{each}
 use Rattle.paper.specs.Programs.{decimal, newline, spaced, spacedAll, printedLook, printedRow, printedRefusal}
 use Rattle.layout.specs.Given.{Reads, byteLimit}
-use Rattle.layout.specs.Puts.{PutFrom}
 use Rattle.layout.proofs.Putting.{put-long, then-put, EachTo, none-put, all-put, one-fits, one-put}
 use Rattle.printing.specs.Prints.{lowestAt, kindAt, symbolAt, partCountAt, partAt, partsAt, platePrinted, lookAt, rowPrinted, rowsPrinted, itemsPrinted, mapPrinted, refusedPrinted, positionPrinted, mostPrinted}
 use Rattle.printing.proofs.Pieces.{decimal-most}

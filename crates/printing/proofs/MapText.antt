@@ -9,6 +9,7 @@ use borrow.Author.Tests.{le-leb}
 use lib.ListN.{length, getD, replicate, length-append, length-replicate, List·getD-append}
 use lib.Seq.{getD-append-add}
 use Rattle.base.specs.Lists.{listFrom, All}
+use Rattle.base.specs.Puts.{PutFrom}
 use Rattle.paper.specs.Sizes.{mostParts, numberLimit}
 use Rattle.paper.specs.Tables.{Table, Record, RecordOk, TableOk, isUnknown, noRecord}
 use Rattle.paper.specs.Runs.{Run}
@@ -19,7 +20,6 @@ use Rattle.paper.specs.Programs.{decimal, spaced, newline, printedRow, printedR
 use Rattle.layout.specs.Offsets.{symbolBytes, rowBytes, mapBytes}
 use Rattle.layout.specs.Fields.{byteAt}
 use Rattle.layout.specs.MapRows.{lookBytes, bytesOfRow, mapOf}
-use Rattle.layout.specs.Puts.{PutFrom}
 use Rattle.printing.specs.Prints.{rowFrom, lowestAt, symbolAt, partCountAt, partAt, partsAt, lookAt, rowAt, rowPrinted, rowsPrinted, itemsPrinted, mapPrinted}
 
 -- a look that a row's bytes hold: a symbol of four bytes, and at most four parts

@@ -8,13 +8,13 @@ use borrow.Author.Tests.{lt-ltb, le-ltb, le-leb, lt-leb}
 use lib.ListN.{length, set, getD, take, length-append, length-set}
 use lib.Seq.{sets-eq}
 use Rattle.base.specs.Regions.{put}
+use Rattle.base.specs.Puts.{PutFrom}
 use Rattle.base.proofs.Regions.{push-none, push-more, push-all, lt-or-le}
 use Rattle.paper.specs.Sizes.{mostParts, numberLimit}
 use Rattle.paper.specs.Programs.{digits, decimal, spaced}
 use Rattle.layout.specs.Offsets.{symbolBytes}
 use Rattle.layout.specs.Fields.{byteAt}
 use Rattle.layout.specs.Given.{Reads, byteLimit}
-use Rattle.layout.specs.Puts.{PutFrom}
 use Rattle.layout.proofs.Putting.{put-nothing, put-long, then-put}
 use Rattle.printing.specs.Prints.{rowFrom, symbolAt, partCountAt}
 

@@ -5,13 +5,13 @@ ghost use mathlib.Core.List.{[], _∷_};
 ghost use Prim.Native.Nat.{_+_, _*_, _≤_, _<_};
 ghost use lib.ListN.{length};
 ghost use Rattle.base.specs.Lists.{listFrom};
+ghost use Rattle.base.specs.Puts.{PutFrom};
 ghost use Rattle.paper.specs.Sizes.{mostUnknowns, mostParts, numberLimit};
 ghost use Rattle.paper.specs.Files.{each};
 ghost use Rattle.paper.specs.Programs.{digits, decimal, spaced, printedLook, printedClash, printedRefusal};
 ghost use Rattle.layout.specs.Offsets.{mapBytes};
 ghost use Rattle.layout.specs.Fields.{byteAt};
 ghost use Rattle.layout.specs.Given.{Reads, byteLimit};
-ghost use Rattle.layout.specs.Puts.{PutFrom};
 ghost use Rattle.printing.specs.Prints.{symbolAt, partCountAt, partAt, platePrinted, lookAt, rowPrinted, rowsPrinted, itemsPrinted, mapPrinted, refusedPrinted, positionPrinted, mostPrinted};
 
 // Twenty digits hold every number of 64 bits.

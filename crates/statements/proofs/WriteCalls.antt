@@ -11,8 +11,8 @@ use mir.Syntax.{w8}
 use mir.Val.{Fits}
 use Rattle.base.specs.Lists.{listFrom}
 use Rattle.base.specs.Regions.{put}
+use Rattle.base.specs.Puts.{PutFrom}
 use Rattle.base.proofs.Froms.{from-length}
-use Rattle.numbers.specs.Written.{Written}
 use Rattle.paper.specs.Sizes.{mostRecords, numberLimit, room, longestFile}
 use Rattle.paper.specs.Refusals.{wrongLength, notSound, notAsLoaded}
 use Rattle.paper.specs.Numbers.{numberBytes}
@@ -24,11 +24,9 @@ use Rattle.layout.specs.Fields.{byteAt, recordOf, recordsFrom, tableOf}
 use Rattle.layout.specs.Soundness.{soundBytes}
 use Rattle.layout.proofs.ChangeLaws.{put-then, put-over}
 use Rattle.layout.proofs.SoundViews.{tested, in-range}
-use Rattle.layout.specs.Puts.{PutFrom}
 use Rattle.layout.proofs.Putting.{put-long, then-put}
 use Rattle.statements.specs.Writes.{asLoaded, statementAt, fileOf, sizesBytes, FilePut, answer, writtenBytes}
 use Rattle.statements.proofs.BothWays.{own-file-ok}
-use Rattle.statements.proofs.WritePieces.{number-put}
 
 -- the sizes
 module _ (d m : List ℕ) (most : length (sizesBytes d) ≤ length m)
@@ -55,19 +53,19 @@ module _ (d m : List ℕ) (most : length (sizesBytes d) ≤ length m)
   pub S-fits-in : 0 + length (numberBytes s) ≤ length m
   S-fits-in = omega (arith, sizes-length)
 
-  module _ (m1 : List ℕ) (p1 : ℕ) (w1 : Written 0 s m m1 p1) where
+  module _ (m1 : List ℕ) (p1 : ℕ) (w1 : PutFrom 0 (numberBytes s) m m1 p1) where
     pub V-fits-in : p1 + length (numberBytes v) ≤ length m1
-    V-fits-in = omega (arith, sizes-length, w1 .past, put-long (number-put w1) S-fits-in)
+    V-fits-in = omega (arith, sizes-length, w1 .past, put-long w1 S-fits-in)
 
-    module _ (m2 : List ℕ) (p2 : ℕ) (w2 : Written p1 v m1 m2 p2) where
+    module _ (m2 : List ℕ) (p2 : ℕ) (w2 : PutFrom p1 (numberBytes v) m1 m2 p2) where
       pub R-fits-in : p2 + length (numberBytes r) ≤ length m2
-      R-fits-in = omega (arith, sizes-length, w1 .past, w2 .past, put-long (number-put w1) S-fits-in, put-long (number-put w2) V-fits-in)
+      R-fits-in = omega (arith, sizes-length, w1 .past, w2 .past, put-long w1 S-fits-in, put-long w2 V-fits-in)
 
-      pub sizes-put : (m3 : List ℕ) (p3 : ℕ) → Written p2 r m2 m3 p3 → PutFrom 0 (sizesBytes d) m m3 p3
+      pub sizes-put : (m3 : List ℕ) (p3 : ℕ) → PutFrom p2 (numberBytes r) m2 m3 p3 → PutFrom 0 (sizesBytes d) m m3 p3
       sizes-put m3 p3 w3 =
           subst (λ (bs : List ℕ). PutFrom 0 bs m m3 p3) (sym sizes-are)
-          (then-put (number-put w1)
-          (then-put (number-put w2) (number-put w3) (omega (arith, sizes-length, w1 .past, put-long (number-put w1) S-fits-in)))
+          (then-put w1
+          (then-put w2 w3 (omega (arith, sizes-length, w1 .past, put-long w1 S-fits-in)))
           (omega (arith, sizes-length, length-append (numberBytes v) (numberBytes r))))
 
 -- the table
@@ -136,9 +134,9 @@ module _ (d m : List ℕ) (most : length (fileBytes (fileOf d)) ≤ length m) (e
     pub E-fits-in : p1 + length (numberBytes e) ≤ length m1
     E-fits-in = omega (arith, file-length, w1 .past, long1)
 
-    module _ (m2 : List ℕ) (p2 : ℕ) (w2 : Written p1 e m1 m2 p2) where
+    module _ (m2 : List ℕ) (p2 : ℕ) (w2 : PutFrom p1 (numberBytes e) m1 m2 p2) where
       pub statements-fit-in : p2 + length (each statementBytes (listFrom (statementAt d) e 0)) ≤ length m2
-      statements-fit-in = omega (arith, file-length, w1 .past, w2 .past, long1, put-long (number-put w2) E-fits-in)
+      statements-fit-in = omega (arith, file-length, w1 .past, w2 .past, long1, put-long w2 E-fits-in)
 
       pub file-put : (m3 : List ℕ) (p3 : ℕ) → PutFrom p2 (each statementBytes (listFrom (statementAt d) e 0)) m2 m3 p3
           → FilePut d m m3 p3
@@ -146,7 +144,7 @@ module _ (d m : List ℕ) (most : length (fileBytes (fileOf d)) ≤ length m) (e
           record {
             put =
                 subst (λ (bs : List ℕ). PutFrom 0 bs m m3 p3) (sym file-is)
-                (then-put w1 (then-put (number-put w2) w3 (omega (arith, file-length, w1 .past, long1)))
+                (then-put w1 (then-put w2 w3 (omega (arith, file-length, w1 .past, long1)))
                 (omega (arith, file-length, length-append (numberBytes e) statements)));
             fits = most;
           }

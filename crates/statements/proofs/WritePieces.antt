@@ -8,9 +8,9 @@ use borrow.Author.Tests.{eq-eqb, ne-eqb, not-true, not-false}
 use lib.Dec.{eqb}
 use lib.ListN.{length, length-append}
 use Rattle.base.specs.Lists.{listFrom}
+use Rattle.base.specs.Puts.{PutFrom}
 use Rattle.base.proofs.Ranges.{below-none, below-more, below-all, below-fails}
 use Rattle.base.proofs.Froms.{from-length}
-use Rattle.numbers.specs.Written.{Written}
 use Rattle.paper.specs.Sizes.{mostRecords, mostParts, numberLimit}
 use Rattle.paper.specs.Numbers.{numberBytes}
 use Rattle.paper.specs.Files.{each, recordBytes, statementBytes}
@@ -18,14 +18,9 @@ use Rattle.layout.specs.Given.{Reads, byteLimit, countLimit}
 use Rattle.layout.specs.Soundness.{zerosAt, soundBytes}
 use Rattle.layout.specs.Fields.{byteAt, countOf, symbolOf, partCountOf, partOf, partsFrom, recordOf, recordsFrom}
 use Rattle.layout.specs.Offsets.{clashAt, statementsAt, ownersAt, memosAt, pendingAt, runBytes, itemFrom}
-use Rattle.layout.specs.Puts.{PutFrom}
 use Rattle.layout.proofs.SoundViews.{tested, shaped}
 use Rattle.layout.proofs.Putting.{put-long, then-put, EachTo, none-put, all-put, one-fits, one-put}
 use Rattle.statements.specs.Writes.{allAre, unmarkedAt, allStatements, asLoaded, statementAt}
-
--- a written number is a piece that was put
-pub number-put : {at n : ℕ} {b a : List ℕ} {next : ℕ} → Written at n b a next → PutFrom at (numberBytes n) b a next
-number-put w = record { past = w .past; bytes = w .bytes }
 
 -- a loop over bytes that are to be v, or over items that are to be statements: it stops, goes on, or has passed all
 module _ (v n at : ℕ) (d : List ℕ) (i : ℕ) where
@@ -123,11 +118,11 @@ module _ (d : List ℕ) (j n at : ℕ) (m₀ : List ℕ) where
       pub part-number : x < numberLimit
       part-number = omega (arith, e .small)
 
-      pub part-put : (m′ : List ℕ) (next : ℕ) → Written here x m m′ next → PartsTo (i + 1) next m′
+      pub part-put : (m′ : List ℕ) (next : ℕ) → PutFrom here (numberBytes x) m m′ next → PartsTo (i + 1) next m′
       unfolding PartsTo
       part-put m′ next w =
           one-put numberBytes (partOf d j) n at m₀ i here m h g most m′ next
-          (subst (λ (y : ℕ). PutFrom here (numberBytes y) m m′ next) (e .same) (number-put w))
+          (subst (λ (y : ℕ). PutFrom here (numberBytes y) m m′ next) (e .same) w)
 
 -- a record
 module _ (d : List ℕ) (i at : ℕ) (m : List ℕ) (most : at + length (recordBytes (recordOf d i)) ≤ length m)
@@ -154,21 +149,21 @@ module _ (d : List ℕ) (i at : ℕ) (m : List ℕ) (most : at + length (recordB
   pub parts-few : partCountOf d i ≤ mostParts → c ≤ mostParts
   parts-few h = omega (arith, ec .same)
 
-  module _ (m1 : List ℕ) (p1 : ℕ) (w1 : Written at s m m1 p1) where
+  module _ (m1 : List ℕ) (p1 : ℕ) (w1 : PutFrom at (numberBytes s) m m1 p1) where
     pub count-fits-in : p1 + length (numberBytes c) ≤ length m1
-    count-fits-in = omega (arith, record-length, w1 .past, put-long (number-put w1) symbol-fits-in)
+    count-fits-in = omega (arith, record-length, w1 .past, put-long w1 symbol-fits-in)
 
-    module _ (m2 : List ℕ) (p2 : ℕ) (w2 : Written p1 c m1 m2 p2) where
+    module _ (m2 : List ℕ) (p2 : ℕ) (w2 : PutFrom p1 (numberBytes c) m1 m2 p2) where
       pub parts-fit-in : p2 + length (each numberBytes (partsFrom d i c 0)) ≤ length m2
       parts-fit-in =
-          omega (arith, record-length, w1 .past, w2 .past, put-long (number-put w1) symbol-fits-in, put-long (number-put w2) count-fits-in)
+          omega (arith, record-length, w1 .past, w2 .past, put-long w1 symbol-fits-in, put-long w2 count-fits-in)
 
       pub record-put : (m3 : List ℕ) (p3 : ℕ) → PutFrom p2 (each numberBytes (partsFrom d i c 0)) m2 m3 p3
           → PutFrom at (recordBytes (recordOf d i)) m m3 p3
       record-put m3 p3 w3 =
           subst (λ (bs : List ℕ). PutFrom at bs m m3 p3) (sym record-is)
-          (then-put (number-put w1)
-          (then-put (number-put w2) w3 (omega (arith, record-length, w1 .past, put-long (number-put w1) symbol-fits-in)))
+          (then-put w1
+          (then-put w2 w3 (omega (arith, record-length, w1 .past, put-long w1 symbol-fits-in)))
           (omega (arith, record-length, length-append (numberBytes c) parts)))
 
 -- the records
@@ -227,20 +222,20 @@ module _ (d : List ℕ) (p at : ℕ) (m : List ℕ) (most : at + length (stateme
   pub cabinet-fits-in : at + length (numberBytes c) ≤ length m
   cabinet-fits-in = omega (arith, statement-length)
 
-  module _ (m1 : List ℕ) (p1 : ℕ) (w1 : Written at c m m1 p1) where
+  module _ (m1 : List ℕ) (p1 : ℕ) (w1 : PutFrom at (numberBytes c) m m1 p1) where
     pub left-fits-in : p1 + length (numberBytes a) ≤ length m1
-    left-fits-in = omega (arith, statement-length, w1 .past, put-long (number-put w1) cabinet-fits-in)
+    left-fits-in = omega (arith, statement-length, w1 .past, put-long w1 cabinet-fits-in)
 
-    module _ (m2 : List ℕ) (p2 : ℕ) (w2 : Written p1 a m1 m2 p2) where
+    module _ (m2 : List ℕ) (p2 : ℕ) (w2 : PutFrom p1 (numberBytes a) m1 m2 p2) where
       pub right-fits-in : p2 + length (numberBytes b) ≤ length m2
       right-fits-in =
-          omega (arith, statement-length, w1 .past, w2 .past, put-long (number-put w1) cabinet-fits-in, put-long (number-put w2) left-fits-in)
+          omega (arith, statement-length, w1 .past, w2 .past, put-long w1 cabinet-fits-in, put-long w2 left-fits-in)
 
-      pub statement-put : (m3 : List ℕ) (p3 : ℕ) → Written p2 b m2 m3 p3 → PutFrom at (statementBytes (statementAt d p)) m m3 p3
+      pub statement-put : (m3 : List ℕ) (p3 : ℕ) → PutFrom p2 (numberBytes b) m2 m3 p3 → PutFrom at (statementBytes (statementAt d p)) m m3 p3
       statement-put m3 p3 w3 =
           subst (λ (bs : List ℕ). PutFrom at bs m m3 p3) (sym statement-is)
-          (then-put (number-put w1)
-          (then-put (number-put w2) (number-put w3) (omega (arith, statement-length, w1 .past, put-long (number-put w1) cabinet-fits-in)))
+          (then-put w1
+          (then-put w2 w3 (omega (arith, statement-length, w1 .past, put-long w1 cabinet-fits-in)))
           (omega (arith, statement-length, length-append (numberBytes a) (numberBytes b))))
 
 -- the statements

@@ -6,6 +6,7 @@ use lib.Dec.{eqb}
 use lib.ListN.{length}
 use Rattle.base.specs.Choice.{pick, allBelow}
 use Rattle.base.specs.Lists.{listFrom}
+use Rattle.base.specs.Puts.{PutFrom}
 use Rattle.paper.specs.Sizes.{longestFile}
 use Rattle.paper.specs.Refusals.{wrongLength, notSound, notAsLoaded}
 use Rattle.paper.specs.Numbers.{numberBytes}
@@ -14,7 +15,6 @@ use Rattle.paper.specs.Files.{File, Read, got, fault, fileBytes, paddedFile, re
 use Rattle.layout.specs.Offsets.{clashAt, cabinetsAt, unknownsAt, recordsAt, statementsAt, ownersAt, memosAt, pendingAt, runBytes, itemFrom}
 use Rattle.layout.specs.Fields.{byteAt, countOf, tableOf}
 use Rattle.layout.specs.Soundness.{soundBytes, zerosAt}
-use Rattle.layout.specs.Puts.{PutFrom}
 use Rattle.statements.specs.Loads.{loadedBytes}
 
 -- the n bytes from `at` on are all v

@@ -6,6 +6,7 @@ ghost use mathlib.Core.Bool.{true};
 ghost use Prim.Native.Nat.{_+_, _≤_, _<_};
 ghost use lib.ListN.{length};
 ghost use Rattle.base.specs.Lists.{listFrom};
+ghost use Rattle.base.specs.Puts.{PutFrom};
 ghost use Rattle.paper.specs.Sizes.{mostRecords, mostParts, room, longestFile};
 ghost use Rattle.paper.specs.Numbers.{numberBytes};
 ghost use Rattle.paper.specs.Files.{each, recordBytes, statementBytes, tableBytes, fileBytes, paddedFile};
@@ -13,7 +14,6 @@ ghost use Rattle.layout.specs.Offsets.{runBytes};
 ghost use Rattle.layout.specs.Given.{Reads, byteLimit};
 ghost use Rattle.layout.specs.Fields.{partCountOf, partsFrom, recordOf, recordsFrom, tableOf};
 ghost use Rattle.layout.specs.Soundness.{soundBytes};
-ghost use Rattle.layout.specs.Puts.{PutFrom};
 ghost use Rattle.statements.specs.Writes.{allAre, allStatements, asLoaded, statementAt, fileOf, sizesBytes, FilePut, answer, writtenBytes};
 
 // The kind of a pending item that is a statement.
