@@ -65,10 +65,6 @@ pub all-unit : (ps : List ℕ) → All (λ p. Unit {0}) ps
 all-unit [] = tt
 all-unit (p ∷ ps) = (tt, all-unit ps)
 
-pub pairwise-mono : (f g : ℕ → ℕ → Bool) → ((p q : ℕ) → T (f p q) → T (g p q)) → (ps qs : List ℕ) → T (pairwise f ps qs)
-    → T (pairwise g ps qs)
-pairwise-mono f g up ps qs h = pairwise-up f g (λ p. Unit {0}) (λ p q a b. up p q) ps qs (all-unit ps) (all-unit qs) h
-
 pub pairwise-flip : (f g : ℕ → ℕ → Bool) → ((p q : ℕ) → T (f p q) → T (g q p)) → (ps qs : List ℕ) → T (pairwise f ps qs)
     → T (pairwise g qs ps)
 pairwise-flip f g up [] [] h = tt

@@ -75,7 +75,3 @@ module _ (m : List ℕ) (bytes : (i : ℕ) → byteAt m i < byteLimit) where
 -- a buffer of that length is enough
 pub map-fits-in : (m d : List ℕ) (v : ℕ) → v ≤ mostUnknowns → mostPrinted ≤ length d → ((i : ℕ) → Fits w8 (byteAt m i)) → length (mapPrinted m v) ≤ length d
 map-fits-in m d v h g b = omega (arith, map-most m (λ i. omega (arith, b i)) v h)
-
--- the map program's buffer, of 2,048 bytes, is long enough
-pub buffer-enough : mostPrinted ≤ 2048
-buffer-enough = omega arith
