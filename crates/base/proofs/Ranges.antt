@@ -2,7 +2,7 @@
 -- number up to another.
 use mathlib.Core.Path.{_≡_, refl, subst}
 use mathlib.Core.Logic.{⊎-elim}
-use mathlib.Core.Bool.{Bool, true, false}
+use mathlib.Core.Bool.{Bool, true, false, _&&_}
 use Prim.Native.Nat.{ℕ, zero, suc, _+_, _-_, _*_, _≤_, _<_}
 use native.Mathlib.Nat.{mul-suc}
 use native.Mathlib.Numerals.{add-one}
@@ -40,6 +40,19 @@ module _ (f : ℕ → Bool) where
 
   pub below-fails : (n i : ℕ) → i < n → f i ≡ false → allBelow n f ≡ false
   below-fails n i l e = not-true-false (allBelow n f) (λ h. not-both (f i) (below-each n h i l) e)
+
+-- a loop of tests with no way out, after the tests of the numbers below i
+module _ (f : ℕ → Bool) where
+  pub tested-none : true ≡ allBelow 0 f
+  unfolding allBelow
+  tested-none = refl
+
+  pub tested-next : (i : ℕ) (b clean : Bool) → b ≡ (f i && clean) → clean ≡ allBelow i f → b ≡ allBelow (i + 1) f
+  unfolding allBelow
+  tested-next i b clean e h = rw (add-one, ← h) e
+
+  pub tested-all : (n i : ℕ) (clean : Bool) → clean ≡ allBelow i f → i ≤ n → n ≤ i → clean ≡ allBelow n f
+  tested-all n i clean h l k = let e : i ≡ n = omega arith in rw e at h
 
 -- P holds from lo up to hi
 abbrev pub Within : (ℕ → Type 0) → ℕ → ℕ → Type 0

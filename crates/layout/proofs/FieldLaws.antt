@@ -1,10 +1,12 @@
 -- What a reader's way out asks, with premises as its tests and reads give them.
 use Prim.Native.Nat.{ℕ, suc, _+_, _*_, _≤_, _<_}
 use mathlib.Core.Path.{_≡_, refl}
+use mathlib.Core.Bool.{Bool, false, _&&_}
 use mathlib.Core.List.{List, [], _∷_}
+use lib.Dec.{eqb}
 use lib.ListN.{length}
 use lib.Seq.{drop-cons}
-use borrow.Author.Tests.{ne-eqb}
+use borrow.Author.Tests.{eq-eqb, ne-eqb}
 use native.Mathlib.Numerals.{towards-suc}
 use native.Mathlib.Omega.{arith}
 use Rattle.base.specs.Regions.{get}
@@ -13,6 +15,14 @@ use Rattle.paper.specs.declared.Item.the-variants.{Statement, Ask, News}
 use Rattle.layout.specs.Offsets.{runBytes, recordFrom, itemFrom}
 use Rattle.layout.specs.Fields.{byteAt, symbolOf, itemAt}
 use Rattle.layout.specs.Given.{Reads, byteLimit}
+
+-- a byte more is to be v
+module _ (clean : Bool) (x v : ℕ) where
+  pub no-longer : (x ≡ v → ⊥) → false ≡ (eqb x v && clean)
+  no-longer h = rw (ne-eqb x v h)
+
+  pub still-so : x ≡ v → clean ≡ (eqb x v && clean)
+  still-so e = rw (eq-eqb x v e)
 
 -- an item is told by its first byte
 module _ (d : List ℕ) (p : ℕ) where

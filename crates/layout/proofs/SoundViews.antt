@@ -22,7 +22,7 @@ use Rattle.paper.specs.Runs.{nothing, initiated, entry, Lesser, ItemOk, OwnerOk
 use Rattle.paper.specs.declared.Item.the-variants.{Statement as statement, Ask as ask, News as news}
 use Rattle.layout.specs.Offsets.{symbolBytes, recordBytes, itemBytes, clashAt, clashCabinetAt, cabinetsAt, unknownsAt, recordsAt, statementsAt, ownersAt, pendingAt, runBytes, recordFrom, storeFrom, memoFrom, itemFrom}
 use Rattle.layout.specs.Fields.{byteAt, valueOf, clashOf, countOf, symbolOf, partCountOf, partOf, recordOf, ownerMark, storeMark, ownerOf, markOf, pairOf, itemOfBytes, itemAt, tableOf, stateOf, runOf}
-use Rattle.layout.specs.Soundness.{zerosAt, lesser, clashOk, sizesOk, partsOk, recordOk, recordsOk, ownerOk, ownersOk, markOk, storeOk, storesOk, pairOk, memoRowOk, memoOk, memosOk, itemOk, placeOk, itemsOk, regionsOk, soundBytes}
+use Rattle.layout.specs.Soundness.{allAre, zerosAt, lesser, clashOk, sizesOk, partsOk, recordOk, recordsOk, ownerOk, ownersOk, markOk, storeOk, storesOk, pairOk, memoRowOk, memoOk, memosOk, itemOk, placeOk, itemsOk, regionsOk, soundBytes}
 use Rattle.layout.proofs.Frames.{Shaped}
 use Rattle.layout.proofs.Canonical.{Canonical}
 
@@ -205,7 +205,7 @@ module _ (d : List ℕ) (long : length d ≡ runBytes) (w : Tested d) where
       (record-test i (omega (arith, range .records)))
 
   spare : (i k : ℕ) → byteAt d recordsAt ≤ i → i < mostRecords → k < recordBytes → byteAt d (recordFrom i + k) ≡ 0
-  unfolding recordOk zerosAt
+  unfolding recordOk allAre
   spare i k h l m =
       eqb-true (byteAt d (recordFrom i + k)) 0
       (below-each (λ j. eqb (byteAt d (recordFrom i + j)) 0) recordBytes
@@ -381,7 +381,7 @@ module _ (d : List ℕ) (long : length d ≡ runBytes) (w : Tested d) where
       picked (ltb p (countOf d)) _ (zerosAt itemBytes (itemFrom p) d) (lt-ltb p (countOf d) h) (place-test p (omega (arith, range .count)))
 
   item-free : (p k : ℕ) → countOf d ≤ p → p < room → k < itemBytes → byteAt d (itemFrom p + k) ≡ 0
-  unfolding placeOk zerosAt
+  unfolding placeOk allAre
   item-free p k h l m =
       eqb-true (byteAt d (itemFrom p + k)) 0
       (below-each (λ j. eqb (byteAt d (itemFrom p + j)) 0) itemBytes
@@ -509,7 +509,7 @@ module _ (d : List ℕ) (s : Shaped d) (k : Sound (tableOf d) (runOf d)) (z : Ca
           (lt-ltb (byteAt d clashCabinetAt) (byteAt d cabinetsAt) h)
 
   zeros-back : (n at : ℕ) → ((j : ℕ) → j < n → byteAt d (at + j) ≡ 0) → zerosAt n at d ≡ true
-  unfolding zerosAt
+  unfolding allAre
   zeros-back n at h = each-below (λ i. eqb (byteAt d (at + i)) 0) n (λ i l. eq-eqb (byteAt d (at + i)) 0 (h i l))
 
   parts-back : (i : ℕ) → i < byteAt d recordsAt → partsOk (byteAt d unknownsAt) i d ≡ true

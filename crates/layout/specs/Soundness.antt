@@ -8,9 +8,13 @@ use Rattle.paper.specs.Sizes.{mostCabinets, mostUnknowns, mostRecords, mostStat
 use Rattle.layout.specs.Offsets.{recordBytes, itemBytes, clashAt, clashCabinetAt, cabinetsAt, unknownsAt, recordsAt, statementsAt, ownersAt, recordFrom, storeFrom, memoFrom, itemFrom}
 use Rattle.layout.specs.Fields.{byteAt, countOf, partCountOf, partOf}
 
+-- the n bytes from `at` on are all v
+unfoldable pub allAre : ℕ → ℕ → ℕ → List ℕ → Bool
+allAre v n at d = allBelow n (λ i. eqb (byteAt d (at + i)) v)
+
 -- "all other unused bytes are 0": n of them from `at` on
-unfoldable pub zerosAt : ℕ → ℕ → List ℕ → Bool
-zerosAt n at d = allBelow n (λ i. eqb (byteAt d (at + i)) 0)
+abbrev pub zerosAt : ℕ → ℕ → List ℕ → Bool
+zerosAt n at d = allAre 0 n at d
 
 -- u is an entry less than the unknown x, with v unknowns and r records
 unfoldable pub lesser : ℕ → ℕ → ℕ → ℕ → Bool

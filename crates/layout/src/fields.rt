@@ -3,7 +3,9 @@ use super::offsets;
 use paper::Item;
 use paper::sizes;
 ghost use mathlib.Core.Path.{_≡_};
-ghost use Prim.Native.Nat.{_+_, _<_};
+ghost use mathlib.Core.Bool.{_&&_};
+ghost use Prim.Native.Nat.{_+_, _≤_, _<_};
+ghost use lib.Dec.{eqb};
 ghost use lib.ListN.{length};
 ghost use Rattle.paper.specs.Sizes.{mostCabinets, mostUnknowns, mostRecords, mostParts, numberLimit, room};
 ghost use Rattle.paper.specs.Tables.{sameHead};
@@ -11,6 +13,7 @@ ghost use Rattle.layout.specs.Offsets.{clashAt, clashCabinetAt, cabinets
 ghost use Rattle.layout.specs.Fields.{byteAt, countOf, symbolOf, partCountOf, partOf, recordOf, itemAt};
 ghost use Rattle.layout.specs.Changes.{storeOf};
 ghost use Rattle.layout.specs.Given.{Reads, byteLimit, countLimit};
+ghost use Rattle.layout.specs.Soundness.{allAre};
 
 // A byte as a number.
 fn wide(x: u8) -> usize
@@ -25,6 +28,31 @@ fn byte(run: &[u8], at: usize) -> usize
     ensures { λ r. ⌜ Reads (byteAt (now (run .entry)) at) byteLimit r ⌝ }
 {
     wide(run[at])
+}
+
+// Whether x is v, and the bytes before it were.
+fn still(clean: bool, x: u8, v: u8) -> bool
+    ensures { λ b. ⌜ b ≡ (eqb x v && clean) ⌝ }
+{
+    if x != v {
+        return false;
+    }
+    clean
+}
+
+// Whether the n bytes from `at` on are all v. There is no way out inside the loop, so that it compiles to one that tests many bytes
+// at once.
+pub fn all_are(run: &[u8], n: usize, at: usize, v: u8) -> bool
+    requires { ⌜ at + n ≤ length (now run) ⌝ }
+    ensures { λ b. ⌜ b ≡ allAre v n at (now (run .entry)) ⌝ }
+{
+    let mut clean = true;
+    let mut i = 0;
+    while i < n {
+        clean = still(clean, run[at + i], v);
+        i += 1;
+    }
+    clean
 }
 
 // S, how many cabinets there are.

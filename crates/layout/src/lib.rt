@@ -17,6 +17,7 @@ pub use changes::set_sizes;
 pub use fields::INITIATED;
 pub use fields::NOTHING;
 pub use fields::Store;
+pub use fields::all_are;
 pub use fields::cabinets;
 pub use fields::clash_byte;
 pub use fields::clash_cabinet;

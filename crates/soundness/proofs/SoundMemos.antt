@@ -12,7 +12,7 @@ use Rattle.base.proofs.Ranges.{below-each, each-below}
 use Rattle.paper.specs.Sizes.{mostUnknowns}
 use Rattle.layout.specs.Offsets.{memosAt, memoBytes}
 use Rattle.layout.specs.Fields.{byteAt}
-use Rattle.layout.specs.Soundness.{zerosAt, pairOk, memoRowOk, memoOk}
+use Rattle.layout.specs.Soundness.{allAre, zerosAt, pairOk, memoRowOk, memoOk}
 use Rattle.soundness.proofs.SoundRegions.{and-then, and-stops}
 use Rattle.soundness.proofs.SoundZeros.{below-parts, below-same}
 
@@ -65,7 +65,7 @@ module _ (s v c x n : ℕ) (d : List ℕ) (e : n ≡ pick (ltb c s && ltb x v) x
   row-parts : (at m : ℕ)
       → n ≤ m
       → allBelow m (λ y. pairOk s v c x y (byteAt d (at + y))) ≡ (allBelow n (bitAt d at) && zerosAt (m - n) (at + n) d)
-  unfolding zerosAt
+  unfolding allAre
   row-parts at m l =
       below-parts (λ y. pairOk s v c x y (byteAt d (at + y))) m n l
       ∙ rw (
@@ -89,7 +89,7 @@ module _ (s v c x n : ℕ) (d : List ℕ) (e : n ≡ pick (ltb c s && ltb x v) x
 -- a memo with no pair
 module _ (s v c : ℕ) (d : List ℕ) (b : Bool) (h : b ≡ zerosAt memoBytes (memosAt + memoBytes * c) d) (t : b ≡ true) where
   no-pair : (x y : ℕ) → x < mostUnknowns → y < mostUnknowns → eqb (byteAt d (rowFrom c x + y)) 0 ≡ true
-  unfolding zerosAt
+  unfolding allAre
   no-pair x y l k =
       rw (add-assoc (memosAt + memoBytes * c) (mostUnknowns * x) y)
       (below-each (λ i. eqb (byteAt d (memosAt + memoBytes * c + i)) 0) memoBytes (sym h ∙ t) (mostUnknowns * x + y) (omega arith))

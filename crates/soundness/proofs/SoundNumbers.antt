@@ -11,12 +11,6 @@ use Rattle.layout.specs.Soundness.{lesser, clashOk, sizesOk, markOk, itemOk}
 
 -- one byte more that must be 0, or at most 1
 module _ (x : ℕ) (clean : Bool) where
-  pub no-longer-zero : (x ≡ 0 → ⊥) → false ≡ (eqb x 0 && clean)
-  no-longer-zero h = rw (ne-eqb x 0 h)
-
-  pub zero-still : x ≡ 0 → clean ≡ (eqb x 0 && clean)
-  zero-still e = rw e
-
   pub no-longer-bit : 1 < x → false ≡ (leb x 1 && clean)
   no-longer-bit h = rw (lt-leb x 1 h)
 

@@ -5,30 +5,16 @@ use mathlib.Core.Bool.{Bool, true, _&&_, and-assoc, and-comm}
 use mathlib.Core.List.{List}
 use Prim.Native.Nat.{ℕ, zero, suc, _+_, _-_, _*_, _≤_, _<_}
 use native.Mathlib.Nat.{add-assoc, add-zero, add-suc, mul-zero, mul-suc, mul-add}
-use native.Mathlib.Numerals.{add-one}
 use native.Mathlib.Omega.{arith}
 use lib.Dec.{eqb}
 use borrow.Author.Tests.{le-ltb}
 use Rattle.base.specs.Choice.{allBelow}
-use Rattle.base.proofs.Ranges.{below-all}
+use Rattle.base.proofs.Ranges.{tested-none, below-all}
 use Rattle.paper.specs.Sizes.{mostRecords, room}
 use Rattle.layout.specs.Offsets.{recordBytes, itemBytes, tableAt, pendingAt, recordFrom, itemFrom}
 use Rattle.layout.specs.Fields.{byteAt}
-use Rattle.layout.specs.Soundness.{zerosAt, partsOk, recordOk, recordsOk, itemOk, placeOk, itemsOk}
+use Rattle.layout.specs.Soundness.{allAre, zerosAt, partsOk, recordOk, recordsOk, itemOk, placeOk, itemsOk}
 use Rattle.soundness.proofs.SoundNumbers.{chosen-below}
-
--- a loop with no way out, after the tests of the numbers below i
-module _ (f : ℕ → Bool) where
-  pub tested-none : true ≡ allBelow 0 f
-  unfolding allBelow
-  tested-none = refl
-
-  pub tested-next : (i : ℕ) (b clean : Bool) → b ≡ (f i && clean) → clean ≡ allBelow i f → b ≡ allBelow (i + 1) f
-  unfolding allBelow
-  tested-next i b clean e h = rw (add-one, ← h) e
-
-  pub tested-all : (n i : ℕ) (clean : Bool) → clean ≡ allBelow i f → i ≤ n → n ≤ i → clean ≡ allBelow n f
-  tested-all n i clean h l k = let e : i ≡ n = omega arith in rw e at h
 
 -- all below a number: those below a lesser one, and those after them; and two tests that say the same
 below-cut : (f : ℕ → Bool) (a b : ℕ) → allBelow (a + b) f ≡ (allBelow b (λ i. f (a + i)) && allBelow a f)
@@ -49,11 +35,11 @@ below-same f g (suc n) h = rw (h n (omega arith), below-same f g n (λ i l. h i 
 -- no bytes from `at` on, and a bytes with b bytes after them
 module _ (at : ℕ) (d : List ℕ) where
   zeros-none : true ≡ zerosAt 0 at d
-  unfolding zerosAt
+  unfolding allAre
   zeros-none = tested-none (λ i. eqb (byteAt d (at + i)) 0)
 
   zeros-cut : (a b : ℕ) → zerosAt (a + b) at d ≡ (zerosAt b (at + a) d && zerosAt a at d)
-  unfolding zerosAt
+  unfolding allAre
   zeros-cut a b = simp add-assoc (below-cut (λ i. eqb (byteAt d (at + i)) 0) a b)
 
 -- tests of rows of w bytes from `at` on, of which those from n on must be 0

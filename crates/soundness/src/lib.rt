@@ -24,31 +24,6 @@ fn wide(x: u8) -> usize
     x as usize
 }
 
-// Whether x is 0, and the bytes before it were.
-fn still_zero(clean: bool, x: u8) -> bool
-    ensures { λ b. ⌜ b ≡ (eqb x 0 && clean) ⌝ }
-{
-    if x != 0 {
-        return false;
-    }
-    clean
-}
-
-// Whether the n bytes from `at` on are 0. There is no way out inside the loop, so that it compiles to one that tests many bytes at
-// once.
-fn zeros_at(run: &[u8], n: usize, at: usize) -> bool
-    requires { ⌜ at + n ≤ length (now run) ⌝ }
-    ensures { λ b. ⌜ b ≡ zerosAt n at (now (run .entry)) ⌝ }
-{
-    let mut clean = true;
-    let mut i = 0;
-    while i < n {
-        clean = still_zero(clean, run[at + i]);
-        i += 1;
-    }
-    clean
-}
-
 // Whether x is 0 or 1, and the bytes before it were.
 fn still_bit(clean: bool, x: u8) -> bool
     ensures { λ b. ⌜ b ≡ (leb x 1 && clean) ⌝ }
@@ -59,7 +34,7 @@ fn still_bit(clean: bool, x: u8) -> bool
     clean
 }
 
-// Whether the n bytes from `at` on are 0 or 1, in a loop like that of `zeros_at`.
+// Whether the n bytes from `at` on are 0 or 1, in a loop like that of `layout::all_are`.
 fn bits_at(run: &[u8], n: usize, at: usize) -> bool
     requires { ⌜ at + n ≤ length (now run) ⌝ }
     ensures { λ b. ⌜ b ≡ allBelow n (λ i. leb (byteAt (now (run .entry)) (at + i)) 1) ⌝ }
@@ -164,10 +139,11 @@ fn records_ok(run: &[u8], v: usize, r: usize) -> bool
         }
         i += 1;
     }
-    zeros_at(
+    layout::all_are(
         run,
         layout::RECORD_BYTES * (sizes::MOST_RECORDS - r),
         layout::TABLE + layout::RECORD_BYTES * r,
+        0,
     )
 }
 
@@ -278,7 +254,7 @@ fn memo_row_ok(run: &[u8], s: usize, v: usize, c: usize, x: usize) -> bool
     if !bits_at(run, n, at) {
         return false;
     }
-    zeros_at(run, sizes::MOST_UNKNOWNS - n, at + n)
+    layout::all_are(run, sizes::MOST_UNKNOWNS - n, at + n, 0)
 }
 
 // Whether cabinet c's memo is sound. Most memos have no pair, which one test shows.
@@ -286,10 +262,11 @@ fn memo_ok(run: &[u8], s: usize, v: usize, c: usize) -> bool
     requires { ⌜ (length (now run) ≡ runBytes) × (c < mostCabinets) ⌝ }
     ensures { λ b. ⌜ b ≡ memoOk s v (now (run .entry)) c ⌝ }
 {
-    if zeros_at(
+    if layout::all_are(
         run,
         layout::MEMO_BYTES,
         layout::MEMOS + layout::MEMO_BYTES * c,
+        0,
     ) {
         return true;
     }
@@ -367,10 +344,11 @@ fn items_ok(run: &[u8], s: usize, v: usize, r: usize, n: usize) -> bool
         }
         p += 1;
     }
-    zeros_at(
+    layout::all_are(
         run,
         layout::ITEM_BYTES * (sizes::ROOM - n),
         layout::PENDING + layout::ITEM_BYTES * n,
+        0,
     )
 }
 

@@ -21,9 +21,9 @@ use Rattle.paper.specs.declared.Item.{Item}
 use Rattle.paper.specs.declared.Item.the-variants.{Statement as statement, Ask as ask, News as news}
 use Rattle.layout.specs.Offsets.{clashAt, clashCabinetAt, statementsAt, ownersAt, storesAt, memosAt, pendingAt, storeFrom, memoFrom, itemFrom}
 use Rattle.layout.specs.Fields.{byteAt, clashOf, countOf, ownerMark, storeMark, ownerOf, markOf, pairOf, itemOfBytes, itemAt, itemsFrom, tableOf, stateOf, runOf}
-use Rattle.layout.specs.Soundness.{zerosAt}
+use Rattle.layout.specs.Soundness.{allAre}
 use Rattle.layout.proofs.Canonical.{Canonical}
-use Rattle.statements.specs.Writes.{unmarkedAt, allStatements, asLoaded, statementAt, fileOf}
+use Rattle.statements.specs.Writes.{allStatements, asLoaded, statementAt, fileOf}
 
 -- the test, taken apart
 pub record AsLoadedBytes (d : List ℕ) : Type 0 where
@@ -35,16 +35,16 @@ pub record AsLoadedBytes (d : List ℕ) : Type 0 where
 
 module _ (d : List ℕ) where
   marks-test : Bool
-  marks-test = unmarkedAt (memosAt - ownersAt) ownersAt d
+  marks-test = allAre 255 (memosAt - ownersAt) ownersAt d
 
   memos-test : Bool
-  memos-test = zerosAt (pendingAt - memosAt) memosAt d
+  memos-test = allAre 0 (pendingAt - memosAt) memosAt d
 
   kinds-test : Bool
   kinds-test = allStatements (byteAt d statementsAt) d
 
   pub as-loaded-out : asLoaded d ≡ true → AsLoadedBytes d
-  unfolding asLoaded marks-test memos-test kinds-test unmarkedAt zerosAt allStatements
+  unfolding asLoaded marks-test memos-test kinds-test allAre allStatements
   as-loaded-out h =
       let a = snd-true (eqb (byteAt d clashAt) 0) (eqb (countOf d) (byteAt d statementsAt) && (marks-test && (memos-test && kinds-test))) h in
       let b = snd-true (eqb (countOf d) (byteAt d statementsAt)) (marks-test && (memos-test && kinds-test)) a in
@@ -66,7 +66,7 @@ module _ (d : List ℕ) where
       }
 
   pub as-loaded-in : AsLoadedBytes d → asLoaded d ≡ true
-  unfolding asLoaded unmarkedAt zerosAt allStatements
+  unfolding asLoaded allAre allStatements
   as-loaded-in w =
       rw (
         eq-eqb (byteAt d clashAt) 0 (w .running),

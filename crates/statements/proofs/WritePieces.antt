@@ -15,34 +15,14 @@ use Rattle.paper.specs.Sizes.{mostRecords, mostParts, numberLimit}
 use Rattle.paper.specs.Numbers.{numberBytes}
 use Rattle.paper.specs.Files.{each, recordBytes, statementBytes}
 use Rattle.layout.specs.Given.{Reads, byteLimit, countLimit}
-use Rattle.layout.specs.Soundness.{zerosAt, soundBytes}
+use Rattle.layout.specs.Soundness.{allAre, soundBytes}
 use Rattle.layout.specs.Fields.{byteAt, countOf, symbolOf, partCountOf, partOf, partsFrom, recordOf, recordsFrom}
 use Rattle.layout.specs.Offsets.{clashAt, statementsAt, ownersAt, memosAt, pendingAt, runBytes, itemFrom}
 use Rattle.layout.proofs.SoundViews.{tested, shaped}
 use Rattle.layout.proofs.Putting.{put-long, then-put, EachTo, none-put, all-put, one-fits, one-put}
-use Rattle.statements.specs.Writes.{allAre, unmarkedAt, allStatements, asLoaded, statementAt}
+use Rattle.statements.specs.Writes.{allStatements, asLoaded, statementAt}
 
--- a loop over bytes that are to be v, or over items that are to be statements: it stops, goes on, or has passed all
-module _ (v n at : ℕ) (d : List ℕ) (i : ℕ) where
-  abbrev is-v : ℕ → Bool
-  is-v k = eqb (byteAt d (at + k)) v
-
-  pub are-fail : i < n → (byteAt d (at + i) ≡ v → ⊥) → false ≡ allAre v n at d
-  unfolding allAre
-  are-fail l h = sym (below-fails is-v n i l (ne-eqb (byteAt d (at + i)) v h))
-
-  pub are-none : allAre v 0 at d ≡ true
-  unfolding allAre
-  are-none = below-none is-v
-
-  pub are-more : allAre v i at d ≡ true → byteAt d (at + i) ≡ v → allAre v (i + 1) at d ≡ true
-  unfolding allAre
-  are-more h e = below-more is-v i h (eq-eqb (byteAt d (at + i)) v e)
-
-  pub are-all : allAre v i at d ≡ true → i ≤ n → n ≤ i → true ≡ allAre v n at d
-  unfolding allAre
-  are-all h l k = sym (below-all is-v n i l k h)
-
+-- a loop over items that are to be statements: it stops, goes on, or has passed all
 module _ (n : ℕ) (d : List ℕ) (p : ℕ) where
   abbrev is-statement : ℕ → Bool
   is-statement k = eqb (byteAt d (itemFrom k)) 1
@@ -76,17 +56,17 @@ module _ (d : List ℕ) (a : ℕ) (ea : Reads (byteAt d clashAt) byteLimit a) wh
 
     module _ (hn : n ≡ e) (m : Bool) (em : m ≡ allAre 255 (memosAt - ownersAt) ownersAt d) where
       pub marks-fail : not m ≡ true → false ≡ asLoaded d
-      unfolding asLoaded unmarkedAt allAre
+      unfolding asLoaded
       marks-fail h = rw (← ea .same, ← ee .same, ← en .same, eq-eqb a 0 ha, eq-eqb n e hn, ← em, not-true m h) refl
 
       module _ (hm : not m ≡ false) (z : Bool) (ez : z ≡ allAre 0 (pendingAt - memosAt) memosAt d) where
         pub memos-fail : not z ≡ true → false ≡ asLoaded d
-        unfolding asLoaded unmarkedAt zerosAt allAre
+        unfolding asLoaded
         memos-fail h =
             rw (← ea .same, ← ee .same, ← en .same, eq-eqb a 0 ha, eq-eqb n e hn, ← em, not-false m hm, ← ez, not-true z h) refl
 
         pub loaded-tested : not z ≡ false → (q : Bool) → q ≡ allStatements e d → q ≡ asLoaded d
-        unfolding asLoaded unmarkedAt zerosAt allAre
+        unfolding asLoaded
         loaded-tested h q eq =
             rw (← ea .same, ← ee .same, ← en .same, eq-eqb a 0 ha, eq-eqb n e hn, ← em, not-false m hm, ← ez, not-false z h) eq
 

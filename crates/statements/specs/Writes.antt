@@ -14,16 +14,8 @@ use Rattle.paper.specs.Runs.{Statement}
 use Rattle.paper.specs.Files.{File, Read, got, fault, fileBytes, paddedFile, readFile}
 use Rattle.layout.specs.Offsets.{clashAt, cabinetsAt, unknownsAt, recordsAt, statementsAt, ownersAt, memosAt, pendingAt, runBytes, itemFrom}
 use Rattle.layout.specs.Fields.{byteAt, countOf, tableOf}
-use Rattle.layout.specs.Soundness.{soundBytes, zerosAt}
+use Rattle.layout.specs.Soundness.{allAre, soundBytes}
 use Rattle.statements.specs.Loads.{loadedBytes}
-
--- the n bytes from `at` on are all v
-unfoldable pub allAre : ℕ → ℕ → ℕ → List ℕ → Bool
-allAre v n at d = allBelow n (λ i. eqb (byteAt d (at + i)) v)
-
--- marks 255: n of them from `at` on
-unfoldable pub unmarkedAt : ℕ → ℕ → List ℕ → Bool
-unmarkedAt n at d = allBelow n (λ i. eqb (byteAt d (at + i)) 255)
 
 -- the first n items are statements
 unfoldable pub allStatements : ℕ → List ℕ → Bool
@@ -34,7 +26,7 @@ unfoldable pub asLoaded : List ℕ → Bool
 asLoaded d =
     eqb (byteAt d clashAt) 0
     && (eqb (countOf d) (byteAt d statementsAt)
-    && (unmarkedAt (memosAt - ownersAt) ownersAt d && (zerosAt (pendingAt - memosAt) memosAt d && allStatements (byteAt d statementsAt) d)))
+    && (allAre 255 (memosAt - ownersAt) ownersAt d && (allAre 0 (pendingAt - memosAt) memosAt d && allStatements (byteAt d statementsAt) d)))
 
 -- the statement at a place
 abbrev pub statementAt : List ℕ → ℕ → Statement

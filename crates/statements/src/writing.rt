@@ -14,7 +14,7 @@ ghost use Rattle.layout.specs.Offsets.{runBytes};
 ghost use Rattle.layout.specs.Given.{Reads, byteLimit};
 ghost use Rattle.layout.specs.Fields.{partCountOf, partsFrom, recordOf, recordsFrom, tableOf};
 ghost use Rattle.layout.specs.Soundness.{soundBytes};
-ghost use Rattle.statements.specs.Writes.{allAre, allStatements, asLoaded, statementAt, fileOf, sizesBytes, FilePut, answer, writtenBytes};
+ghost use Rattle.statements.specs.Writes.{allStatements, asLoaded, statementAt, fileOf, sizesBytes, FilePut, answer, writtenBytes};
 
 // The kind of a pending item that is a statement.
 const STATEMENT: u8 = 1;
@@ -31,21 +31,6 @@ fn wide(x: u8) -> u64
     ensures { λ r. ⌜ Reads x byteLimit r ⌝ }
 {
     x as u64
-}
-
-// Whether the n bytes from `at` on are all v.
-fn all_bytes(run: &[u8], n: usize, at: usize, v: u8) -> bool
-    requires { ⌜ at + n ≤ length (now run) ⌝ }
-    ensures { λ r. ⌜ r ≡ allAre v n at (now (run .entry)) ⌝ }
-{
-    let mut i = 0;
-    while i < n {
-        if run[at + i] != v {
-            return false;
-        }
-        i += 1;
-    }
-    true
 }
 
 // Whether the first n pending items are statements.
@@ -75,10 +60,10 @@ fn as_loaded(run: &[u8]) -> bool
     if layout::count(run) != e {
         return false;
     }
-    if !all_bytes(run, layout::MEMOS - layout::OWNERS, layout::OWNERS, 255) {
+    if !layout::all_are(run, layout::MEMOS - layout::OWNERS, layout::OWNERS, 255) {
         return false;
     }
-    if !all_bytes(run, layout::PENDING - layout::MEMOS, layout::MEMOS, 0) {
+    if !layout::all_are(run, layout::PENDING - layout::MEMOS, layout::MEMOS, 0) {
         return false;
     }
     all_statements(run, e)

@@ -4,7 +4,7 @@ use mathlib.Core.Path.{_≡_}
 use borrow.Author.Needs.{needs}
 use Rattle.base.specs.Choice.{allBelow}
 use Rattle.soundness.proofs.SoundMemos.{bitAt}
-use Rattle.soundness.proofs.SoundZeros.{tested-all, tested-next, tested-none}
+use Rattle.base.proofs.Ranges.{tested-all, tested-next, tested-none}
 use Rattle.soundness.proofs.bits_at.Statement.{statement}
 use Rattle.soundness.proofs.bits_at.Tie as tie
 

@@ -36,20 +36,20 @@ loop-less c = search needs
 loop-again : tie.Need-loop-again Inv-loop μ-loop
 loop-again c = (search needs, search (goes-on, place-item))
 
-sub-zeros-at : tie.Need-sub-zeros-at Inv-loop μ-loop
-sub-zeros-at c = search needs
+sub-all-are : tie.Need-sub-all-are Inv-loop μ-loop
+sub-all-are c = search needs
 
-mul-zeros-at : tie.Need-mul-zeros-at Inv-loop μ-loop
-mul-zeros-at c = search needs
+mul-all-are : tie.Need-mul-all-are Inv-loop μ-loop
+mul-all-are c = search needs
 
-mul-zeros-at-2 : tie.Need-mul-zeros-at-2 Inv-loop μ-loop
-mul-zeros-at-2 c = search needs
+mul-all-are-2 : tie.Need-mul-all-are-2 Inv-loop μ-loop
+mul-all-are-2 c = search needs
 
-add-zeros-at : tie.Need-add-zeros-at Inv-loop μ-loop
-add-zeros-at c = search needs
+add-all-are : tie.Need-add-all-are Inv-loop μ-loop
+add-all-are c = search needs
 
-zeros-at-requires : tie.Need-zeros-at-requires Inv-loop μ-loop
-zeros-at-requires c κs = search needs
+all-are-requires : tie.Need-all-are-requires Inv-loop μ-loop
+all-are-requires c κs = search needs
 
 returns-2 : tie.Need-returns-2 Inv-loop μ-loop
 returns-2 c = search items-rest
@@ -66,9 +66,9 @@ items-ok-spec =
     add-p
     loop-less
     loop-again
-    sub-zeros-at
-    mul-zeros-at
-    mul-zeros-at-2
-    add-zeros-at
-    zeros-at-requires
+    sub-all-are
+    mul-all-are
+    mul-all-are-2
+    add-all-are
+    all-are-requires
     returns-2)

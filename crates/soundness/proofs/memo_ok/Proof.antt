@@ -18,14 +18,14 @@ Inv-loop run s v c x₀ x = (x ≤ mostUnknowns) × (allBelow x (memoRowOk s v r
 abbrev μ-loop : tie.MeasureT-loop
 μ-loop run s v c x₀ x = mostUnknowns - x
 
-mul-zeros-at : tie.Need-mul-zeros-at Inv-loop μ-loop
-mul-zeros-at c = search needs
+mul-all-are : tie.Need-mul-all-are Inv-loop μ-loop
+mul-all-are c = search needs
 
-add-zeros-at : tie.Need-add-zeros-at Inv-loop μ-loop
-add-zeros-at c = search needs
+add-all-are : tie.Need-add-all-are Inv-loop μ-loop
+add-all-are c = search needs
 
-zeros-at-requires : tie.Need-zeros-at-requires Inv-loop μ-loop
-zeros-at-requires c κs = search needs
+all-are-requires : tie.Need-all-are-requires Inv-loop μ-loop
+all-are-requires c κs = search needs
 
 returns : tie.Need-returns Inv-loop μ-loop
 returns c = search memo-none
@@ -59,9 +59,9 @@ memo-ok-spec =
     (tie.spec
     Inv-loop
     μ-loop
-    mul-zeros-at
-    add-zeros-at
-    zeros-at-requires
+    mul-all-are
+    add-all-are
+    all-are-requires
     returns
     loop-holds
     memo-row-ok-requires

@@ -25,14 +25,14 @@ bits-at-requires c κs = search needs
 returns : tie.Need-returns
 returns c = search row-stops
 
-sub-zeros-at : tie.Need-sub-zeros-at
-sub-zeros-at c = search needs
+sub-all-are : tie.Need-sub-all-are
+sub-all-are c = search needs
 
-add-zeros-at : tie.Need-add-zeros-at
-add-zeros-at c = search needs
+add-all-are : tie.Need-add-all-are
+add-all-are c = search needs
 
-zeros-at-requires : tie.Need-zeros-at-requires
-zeros-at-requires c κs = search needs
+all-are-requires : tie.Need-all-are-requires
+all-are-requires c κs = search needs
 
 returns-2 : tie.Need-returns-2
 returns-2 c = search row-rest
@@ -48,7 +48,7 @@ memo-row-ok-spec =
     pairs-of-requires
     bits-at-requires
     returns
-    sub-zeros-at
-    add-zeros-at
-    zeros-at-requires
+    sub-all-are
+    add-all-are
+    all-are-requires
     returns-2)

@@ -19,20 +19,20 @@ count-requires c κs = search needs
 returns-2 : tie.Need-returns-2
 returns-2 c = search count-fails
 
-sub-all-bytes : tie.Need-sub-all-bytes
-sub-all-bytes c = search needs
+sub-all-are : tie.Need-sub-all-are
+sub-all-are c = search needs
 
-all-bytes-requires : tie.Need-all-bytes-requires
-all-bytes-requires c κs = search needs
+all-are-requires : tie.Need-all-are-requires
+all-are-requires c κs = search needs
 
 returns-3 : tie.Need-returns-3
 returns-3 c = search marks-fail
 
-sub-all-bytes-2 : tie.Need-sub-all-bytes-2
-sub-all-bytes-2 c = search needs
+sub-all-are-2 : tie.Need-sub-all-are-2
+sub-all-are-2 c = search needs
 
-all-bytes-requires-2 : tie.Need-all-bytes-requires-2
-all-bytes-requires-2 c κs = search needs
+all-are-requires-2 : tie.Need-all-are-requires-2
+all-are-requires-2 c κs = search needs
 
 returns-4 : tie.Need-returns-4
 returns-4 c = search memos-fail
@@ -52,11 +52,11 @@ as-loaded-spec =
     statements-requires
     count-requires
     returns-2
-    sub-all-bytes
-    all-bytes-requires
+    sub-all-are
+    all-are-requires
     returns-3
-    sub-all-bytes-2
-    all-bytes-requires-2
+    sub-all-are-2
+    all-are-requires-2
     returns-4
     all-statements-requires
     returns-5)
