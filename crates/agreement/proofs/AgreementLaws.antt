@@ -10,7 +10,7 @@ use borrow.Author.Tests.{not-true, not-false, ne-eqb, eqb-true}
 use lib.Dec.{eqb}
 use lib.ListN.{getD, replicate}
 use Rattle.base.specs.Choice.{pick}
-use Rattle.base.specs.Lists.{listFrom}
+use Rattle.base.specs.Lists.{listFrom, Bytes}
 use Rattle.base.proofs.Tests.{snd-true}
 use Rattle.base.proofs.Regions.{lt-or-le}
 use Rattle.paper.specs.Sizes.{mostUnknowns}
@@ -22,7 +22,7 @@ use Rattle.paper.proofs.MetPairs.{met-pairs-answer-depth-V}
 use Rattle.paper.proofs.MetPairsEnd.{unmet, unmet-le, unmet-falls, met-keeps}
 use Rattle.layout.specs.Fields.{symbolOf, partCountOf, partOf, recordOf, ownerOf, tableOf}
 use Rattle.layout.specs.Given.{Reads, byteLimit}
-use Rattle.layout.proofs.SoundViews.{Bytes, table-ok}
+use Rattle.layout.proofs.SoundViews.{table-ok}
 use Rattle.layout.proofs.ViewedFields.{head-byte}
 use Rattle.agreement.specs.Given.{SoundRun}
 use Rattle.agreement.specs.Ends.{endsOf, EndsAt, AllEnd}

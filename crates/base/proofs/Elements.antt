@@ -5,7 +5,7 @@ use mathlib.Core.List.{List, [], _∷_, _++_, map}
 use mathlib.Core.Option.{none, some}
 use Prim.Native.Nat.{ℕ, zero, suc, _+_, _*_, _≤_, _<_}
 use native.Mathlib.Omega.{arith}
-use lib.ListN.{length, getElem?, getD, take, drop, replicate}
+use lib.ListN.{length, getElem?, getD, take, drop, set, replicate}
 use Rattle.base.specs.Lists.{without, All, total, Member, here, there}
 
 module _ {A : Type 0} where
@@ -62,6 +62,16 @@ module _ {A : Type 0} where
   all-take P [] (suc n) a = a
   all-take P (x ∷ l) zero a = tt
   all-take P (x ∷ l) (suc n) a = (a .0, all-take P l n (a .1))
+
+  pub all-drop : (P : A → Type 0) (l : List A) (n : ℕ) → All P l → All P (drop n l)
+  all-drop P l zero a = a
+  all-drop P [] (suc n) a = a
+  all-drop P (x ∷ l) (suc n) a = all-drop P l n (a .1)
+
+  pub all-set : (P : A → Type 0) (l : List A) (i : ℕ) (x : A) → P x → All P l → All P (set l i x)
+  all-set P [] i x h a = a
+  all-set P (y ∷ l) zero x h a = (h, a .1)
+  all-set P (y ∷ l) (suc i) x h a = (a .0, all-set P l i x h (a .1))
 
   pub all-replicate : (P : A → Type 0) (n : ℕ) (x : A) → P x → All P (replicate n x)
   all-replicate P zero x h = tt

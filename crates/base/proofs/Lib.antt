@@ -9,3 +9,4 @@ pub mod Firsts
 pub mod Regions
 pub mod Ranges
 pub mod Froms
+pub mod Bytes

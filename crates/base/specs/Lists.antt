@@ -2,7 +2,8 @@
 -- numbers below n.
 use mathlib.Core.Bool.{Bool, true, false, _&&_}
 use mathlib.Core.List.{List, [], _∷_}
-use Prim.Native.Nat.{ℕ, zero, suc, _+_}
+use Prim.Native.Nat.{ℕ, zero, suc, _+_, _<_}
+use lib.ListN.{getD}
 
 module _ {A : Type 0} where
   -- the list without its element at a place
@@ -25,6 +26,10 @@ module _ {A : Type 0} where
   abbrev pub total : (A → ℕ) → List A → ℕ
   total w [] = 0
   total w (x ∷ xs) = w x + total w xs
+
+-- every element is a byte, as of any lent slice
+abbrev pub Bytes : List ℕ → Type 0
+Bytes l = (i : ℕ) → getD l i 0 < 256
 
 -- an element of a list
 pub data Member {A : Type 0} (a : A) : List A → Type 0 where

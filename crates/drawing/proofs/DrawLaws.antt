@@ -9,6 +9,7 @@ use borrow.Author.Tests.{eq-eqb, ne-eqb, eqb-false}
 use lib.Dec.{ltb, leb, eqb}
 use lib.ListN.{length}
 use Rattle.base.specs.Choice.{pick}
+use Rattle.base.specs.Lists.{Bytes}
 use Rattle.paper.specs.Sizes.{room}
 use Rattle.paper.specs.Refusals.{noSuchPlace, hasClashed, noRoom}
 use Rattle.paper.specs.Counts.{mostSteps}
@@ -17,7 +18,6 @@ use Rattle.layout.specs.Offsets.{runBytes, clashAt, cabinetsAt, unknownsAt, sta
 use Rattle.layout.specs.Fields.{byteAt, countOf, itemAt}
 use Rattle.layout.specs.Changes.{removedAt, appendedAll}
 use Rattle.layout.specs.Soundness.{soundBytes}
-use Rattle.layout.proofs.SoundViews.{Bytes}
 use Rattle.effects.specs.Changes.{applied}
 use Rattle.rules.specs.Plans.{Plan, wait, plan, planOf}
 use Rattle.rules.specs.Bytes.{Out, out, performedBytes, takenBytes}

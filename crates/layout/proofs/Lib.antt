@@ -6,5 +6,6 @@ pub mod CanonicalKept
 pub mod SameBytes
 pub mod FieldLaws
 pub mod ChangeLaws
+pub mod ByteLaws
 pub mod Putting
 pub mod ViewedFields

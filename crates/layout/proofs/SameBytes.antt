@@ -11,11 +11,13 @@ use lib.Dec.{ltb, eqb}
 use lib.ListN.{length, getD}
 use lib.Seq.{ext-getD}
 use Rattle.base.specs.Choice.{pick}
+use Rattle.base.specs.Lists.{Bytes}
 use Rattle.base.specs.Regions.{get}
 use Rattle.base.proofs.Tests.{and-true}
 use Rattle.base.proofs.Froms.{same-count, same-from}
 use Rattle.base.proofs.Ranges.{within-joined, within-next, within-none, within-each, within-rows}
 use Rattle.base.proofs.Regions.{lt-or-le, length-get, get-at}
+use Rattle.base.proofs.Bytes.{get-bytes}
 use Rattle.paper.specs.Sizes.{mostCabinets, mostUnknowns, mostRecords, mostParts}
 use Rattle.paper.specs.Tables.{Record, Table}
 use Rattle.paper.specs.Runs.{Mark, nothing, initiated, entry, Run}
@@ -26,16 +28,16 @@ use Rattle.layout.specs.Soundness.{soundBytes}
 use Rattle.layout.specs.Changes.{bytesOfItem}
 use Rattle.layout.proofs.Frames.{Same, Shaped}
 use Rattle.layout.proofs.Canonical.{Canonical}
-use Rattle.layout.proofs.SoundViews.{Bytes, tested, shaped, canonical}
+use Rattle.layout.proofs.SoundViews.{tested, shaped, canonical}
 
 -- bytes from their value
-value-back : (l : List ℕ) → ((i : ℕ) → i < length l → getD l i 0 < 256) → bytesOf (length l) (valueOf l) ≡ l
+value-back : (l : List ℕ) → Bytes l → bytesOf (length l) (valueOf l) ≡ l
 value-back [] h = refl
 value-back (b ∷ l) h =
-    let k : b < 256 = h 0 (omega arith) in
+    let k : b < 256 = h 0 in
     let p : (b + 256 * valueOf l) % 256 ≡ b = omega arith in
     let q : (b + 256 * valueOf l) / 256 ≡ valueOf l = omega arith in
-    rw (p, q, value-back l (λ i m. h (suc i) (omega arith)))
+    rw (p, q, value-back l (λ i. h (suc i)))
 
 -- bytes 0 and 1 from the clash
 abbrev clashBytes : Option ℕ → ℕ × ℕ
@@ -100,7 +102,7 @@ unfolding symbolOf
 symbol-back d long b i h =
     let fits : recordFrom i + symbolBytes ≤ length d = omega arith in
     let l : length (get (recordFrom i) symbolBytes d) ≡ symbolBytes = length-get (recordFrom i) symbolBytes d fits in
-    rw l at (value-back (get (recordFrom i) symbolBytes d) (λ k m. rw (get-at (recordFrom i) symbolBytes d fits k (omega arith)) (b (recordFrom i + k))))
+    rw l at (value-back (get (recordFrom i) symbolBytes d) (get-bytes (recordFrom i) symbolBytes d b))
 
 -- two runs' bytes with one view, region by region
 module _ (d e : List ℕ) (sd : Shaped d) (se : Shaped e) (bd : Bytes d) (be : Bytes e) (zd : Canonical d) (ze : Canonical e) (tables : tableOf d ≡ tableOf e) (runs : runOf d ≡ runOf e) where

@@ -4,18 +4,20 @@ use mathlib.Core.Logic.{_⊎_, inl, inr, ⊎-elim}
 use mathlib.Core.Bool.{Bool, true, false, _&&_, _||_}
 use mathlib.Core.List.{List, [], _∷_}
 use mathlib.Core.Option.{none, some}
-use Prim.Native.Nat.{ℕ, suc, _+_, _-_, _*_, _/_, _%_, _^_, _≤_, _<_}
+use Prim.Native.Nat.{ℕ, suc, _+_, _-_, _/_, _%_, _^_, _≤_, _<_}
 use native.Mathlib.Nat.{pow-suc}
 use native.Mathlib.Omega.{arith}
 use borrow.Author.Tests.{ltb-true, ltb-false, leb-true, eqb-true, eqb-false, lt-ltb, le-ltb, le-leb, eq-eqb}
 use lib.Dec.{ltb, leb, eqb}
-use lib.ListN.{length, getD, List·getD-eq-default}
+use lib.ListN.{length}
 use Rattle.base.specs.Choice.{pick, allBelow}
+use Rattle.base.specs.Lists.{Bytes}
 use Rattle.base.specs.Regions.{get}
 use Rattle.base.proofs.Tests.{fst-true, snd-true, and-true, not-both}
 use Rattle.base.proofs.Froms.{from-length, from-all, all-from}
 use Rattle.base.proofs.Ranges.{below-each, each-below}
-use Rattle.base.proofs.Regions.{length-get, get-at}
+use Rattle.base.proofs.Regions.{length-get}
+use Rattle.base.proofs.Bytes.{get-bytes}
 use Rattle.paper.specs.Sizes.{mostCabinets, mostUnknowns, mostRecords, mostStatements, mostParts, room, numberLimit}
 use Rattle.paper.specs.Tables.{Table, RecordOk, TableOk, entries, less}
 use Rattle.paper.specs.Runs.{nothing, initiated, entry, Lesser, ItemOk, OwnerOk, MarkOk, MemoOk, ClashOk, Sound}
@@ -25,9 +27,6 @@ use Rattle.layout.specs.Fields.{byteAt, valueOf, clashOf, countOf, symbo
 use Rattle.layout.specs.Soundness.{allAre, zerosAt, lesser, clashOk, sizesOk, partsOk, recordOk, recordsOk, ownerOk, ownersOk, markOk, storeOk, storesOk, pairOk, memoRowOk, memoOk, memosOk, itemOk, placeOk, itemsOk, regionsOk, soundBytes}
 use Rattle.layout.proofs.Frames.{Shaped}
 use Rattle.layout.proofs.Canonical.{Canonical}
-
-abbrev pub Bytes : List ℕ → Type 0
-Bytes d = (i : ℕ) → byteAt d i < 256
 
 or-cases : (a b : Bool) → (a || b) ≡ true → (a ≡ true) ⊎ (b ≡ true)
 or-cases true b e = inl refl
@@ -62,7 +61,7 @@ six a b c d e f h =
     (x .0, x .1, y .0, y .1, z .0, z .1)
 
 -- so many bytes say less than 256 to that power
-value-below : (l : List ℕ) → ((i : ℕ) → getD l i 0 < 256) → valueOf l < 256 ^ length l
+value-below : (l : List ℕ) → Bytes l → valueOf l < 256 ^ length l
 value-below [] h = omega arith
 value-below (b ∷ l) h = rw pow-suc (omega (arith, h 0, value-below l (λ i. h (suc i))))
 
@@ -246,14 +245,8 @@ module _ (d : List ℕ) (long : length d ≡ runBytes) (w : Tested d) where
       let at : ℕ = recordFrom i in
       let fits : at + symbolBytes ≤ length d = omega (arith, long) in
       let l : length (get at symbolBytes d) ≡ symbolBytes = length-get at symbolBytes d fits in
-      let e : valueOf (get at symbolBytes d) < 256 ^ length (get at symbolBytes d) = value-below (get at symbolBytes d) (λ k. byte k (ltb k symbolBytes) refl fits) in
+      let e : valueOf (get at symbolBytes d) < 256 ^ length (get at symbolBytes d) = value-below (get at symbolBytes d) (get-bytes at symbolBytes d b) in
       rw l at e
-    where
-      byte : (k : ℕ) (c : Bool) → ltb k symbolBytes ≡ c → recordFrom i + symbolBytes ≤ length d → getD (get (recordFrom i) symbolBytes d) k 0 < 256
-      byte k true e f = rw (get-at (recordFrom i) symbolBytes d f k (ltb-true k symbolBytes e)) (b (recordFrom i + k))
-      byte k false e f =
-          rw (List·getD-eq-default (get (recordFrom i) symbolBytes d) 0 {n = k} (omega (arith, length-get (recordFrom i) symbolBytes d f, ltb-false k symbolBytes e)))
-          (omega arith)
 
   pub table-ok : Bytes d → TableOk (tableOf d)
   unfolding tableOf recordOf

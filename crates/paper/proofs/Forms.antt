@@ -4,14 +4,14 @@ use mathlib.Core.List.{List, [], _∷_, _++_, append-assoc, append-nil}
 use Prim.Native.Nat.{ℕ, zero, suc, _+_, _≤_, _<_}
 use native.Mathlib.Omega.{arith}
 use lib.ListN.{length, drop, length-append}
-use Rattle.base.specs.Lists.{All}
+use Rattle.base.specs.Lists.{All, Bytes}
 use Rattle.base.proofs.Positions.{append-after, drop-past}
 use Rattle.paper.specs.Sizes.{numberLimit}
 use Rattle.paper.specs.Numbers.{rangedAt, numberBytes}
 use Rattle.paper.specs.Files.{Form, end, next, _>>=_, number, times, Read, got, fault, onward, reading, each}
 use Rattle.paper.specs.declared.Num.{Num}
 use Rattle.paper.specs.declared.Num.the-variants.{Got, Refused}
-use Rattle.paper.proofs.NumberCodec.{Bytes, number-there, number-back, Ranged, inside, ranged, ranged-is}
+use Rattle.paper.proofs.NumberCodec.{number-there, number-back, Ranged, inside, ranged, ranged-is}
 
 module _ {A B : Type 0} where
   -- a reading, and then what its value leads to

@@ -9,19 +9,14 @@ use borrow.Author.Tests.{ltb-true, ltb-false, leb-true, leb-false, lt-ltb, le-lt
 use lib.Dec.{ltb, leb}
 use lib.ListN.{length, getD, drop}
 use Rattle.base.specs.Choice.{pick}
-use Rattle.base.specs.Lists.{All}
+use Rattle.base.specs.Lists.{Bytes}
 use Rattle.base.proofs.Tests.{fst-true, snd-true}
-use Rattle.base.proofs.Elements.{all-getD}
 use Rattle.base.proofs.Positions.{element-at, drop-at-element}
 use Rattle.paper.specs.Sizes.{mostGroups, topGroup, numberLimit}
 use Rattle.paper.specs.Refusals.{fileEnds, badNumber}
 use Rattle.paper.specs.Numbers.{largest, above, groupsFrom, numberAt, within, rangedAt, groupsOf, numberBytes}
 use Rattle.paper.specs.declared.Num.{Num}
 use Rattle.paper.specs.declared.Num.the-variants.{Got, Refused}
-
--- every element is a byte
-abbrev pub Bytes : List ℕ → Type 0
-Bytes s = All (λ b. b < 256) s
 
 -- what k groups hold, with a last group of at most `top`
 abbrev pub limit : ℕ → ℕ → ℕ
@@ -154,7 +149,7 @@ groups-back (suc k) top least s from at n next l a e =
         → GroupsRead (suc k) top least s at n next
     goes-on zero m h d v i = absurd (let z : ⊥ = omega (arith, i .small) in z)
     goes-on (suc k) m h d v i =
-        let low : b < 256 = all-getD (λ x. x < 256) s at 0 (omega arith) a in
+        let low : b < 256 = a at in
         let pos : 1 ≤ m = i .shortest in
         let top : n / 128 ≡ m = omega arith in
         let rem : 128 + n % 128 ≡ b = omega arith in

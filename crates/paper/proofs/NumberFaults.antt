@@ -1,6 +1,6 @@
 -- Refusals 1 and 2 of a number are given exactly when document 01 says.
 use mathlib.Core.Path.{_≡_, refl, sym, subst, _∙_}
-use mathlib.Core.Logic.{_⊎_, ⊎-elim, _↔_}
+use mathlib.Core.Logic.{⊎-elim, _↔_}
 use mathlib.Core.Bool.{Bool, true, false}
 use mathlib.Core.List.{List, _∷_, _++_}
 use Prim.Native.Nat.{ℕ, zero, suc, _+_, _≤_, _<_}
@@ -8,14 +8,14 @@ use native.Mathlib.Omega.{arith}
 use borrow.Author.Tests.{ltb-true}
 use lib.Dec.{ltb}
 use lib.ListN.{length, getD, drop, drop-of-length-le}
-use Rattle.base.specs.Lists.{All}
+use Rattle.base.specs.Lists.{All, Bytes}
 use Rattle.base.proofs.Positions.{drop-at-element}
 use Rattle.paper.specs.Sizes.{mostGroups, topGroup, numberLimit}
 use Rattle.paper.specs.Refusals.{fileEnds, badNumber}
 use Rattle.paper.specs.Numbers.{groupsFrom, numberAt, numberBytes}
 use Rattle.paper.specs.declared.Num.{Num}
 use Rattle.paper.specs.declared.Num.the-variants.{Got, Refused}
-use Rattle.paper.proofs.NumberCodec.{Bytes, Group, cut, unfit, last, first, group, group-goes-on, refused-got, number-refused-at, number-refusals, number-there, number-back}
+use Rattle.paper.proofs.NumberCodec.{Group, cut, unfit, last, first, group, group-goes-on, refused-got, number-refused-at, number-refusals, number-there, number-back}
 
 -- bytes that end before a number of at most k groups does: fewer than k, each saying that another follows
 pub record CutShort (k : ℕ) (b : List ℕ) : Type 0 where

@@ -8,7 +8,7 @@ use borrow.Author.Tests.{ltb-false, le-ltb}
 use lib.Dec.{ltb}
 use lib.ListN.{length, replicate, drop, length-append, length-replicate, drop-of-length-le}
 use Rattle.base.specs.Choice.{pick}
-use Rattle.base.specs.Lists.{All}
+use Rattle.base.specs.Lists.{All, Bytes}
 use Rattle.base.proofs.Elements.{all-replicate}
 use Rattle.base.proofs.Positions.{append-after}
 use Rattle.paper.specs.Sizes.{mostCabinets, mostUnknowns, mostRecords, mostParts, mostStatements, mostGroups, numberLimit, longestFile}
@@ -19,7 +19,7 @@ use Rattle.paper.specs.Runs.{Statement, Run, asItem, initial}
 use Rattle.paper.specs.Reached.{StatementOk, FileOk}
 use Rattle.paper.specs.Files.{Form, end, _>>=_, number, times, recordForm, tableForm, statementForm, countForm, fileForm, File, Read, got, fault, reading, ended, readFile, each, recordBytes, statementBytes, tableBytes, fileBytes, paddedFile}
 use Rattle.paper.specs.Replies.{AsLoaded}
-use Rattle.paper.proofs.NumberCodec.{Bytes, number-one, number-most}
+use Rattle.paper.proofs.NumberCodec.{number-one, number-most}
 use Rattle.paper.proofs.Forms.{Spells, more, number-spells, spells-next, number-codec, Codec, spells-made, made-spells, spells-bind, bind-spells, times-codec, codec-there, codec-back, fault-got}
 
 -- a record: "symbol, part count, parts"

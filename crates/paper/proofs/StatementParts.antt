@@ -4,12 +4,13 @@ use mathlib.Core.Logic.{_⊎_, inl, inr, ⊎-elim, _↔_}
 use mathlib.Core.Bool.{Bool, true, false}
 use mathlib.Core.List.{List, [], _∷_, _++_, append-assoc}
 use mathlib.Core.Option.{some}
-use Prim.Native.Nat.{ℕ, suc, _+_, _-_, _≤_, _<_}
+use Prim.Native.Nat.{ℕ, suc, _+_, _≤_, _<_}
 use native.Mathlib.Omega.{arith}
 use borrow.Author.Tests.{ltb-true, ltb-false, lt-ltb, le-ltb}
 use lib.Dec.{ltb}
 use lib.ListN.{length, take, drop, getElem?, length-append}
 use lib.Seq.{length-take-le, drop-append-seam, take-append-seam}
+use Rattle.base.specs.Lists.{Bytes}
 use Rattle.base.proofs.Elements.{place-some, some-place, place-split, all-take, all-at}
 use Rattle.base.proofs.Positions.{append-after}
 use Rattle.paper.specs.Sizes.{mostStatements}
@@ -17,7 +18,7 @@ use Rattle.paper.specs.Numbers.{numberBytes}
 use Rattle.paper.specs.Runs.{Statement}
 use Rattle.paper.specs.Reached.{StatementOk, FileOk}
 use Rattle.paper.specs.Files.{end, _>>=_, times, statementForm, countForm, beforeStatement, File, Read, got, fault, reading, readFile, each, statementBytes, tableBytes, fileBytes, Span, emptySpan, spanIn, spanAt, statementSpan, statementPart}
-use Rattle.paper.proofs.NumberCodec.{Bytes, number-some}
+use Rattle.paper.proofs.NumberCodec.{number-some}
 use Rattle.paper.proofs.Forms.{Spells, number-spells, made-spells, bind-spells, spelt-read, times-codec, codec-there}
 use Rattle.paper.proofs.RoundTrip.{table-codec, statement-codec, read-written}
 

@@ -10,7 +10,7 @@ use mir.Syntax.{w8}
 use mir.Val.{Fits}
 use lib.ListN.{length, length-append}
 use Rattle.base.specs.Choice.{pick}
-use Rattle.base.specs.Lists.{listFrom}
+use Rattle.base.specs.Lists.{listFrom, Bytes}
 use Rattle.paper.specs.Sizes.{mostUnknowns, mostParts, numberLimit}
 use Rattle.paper.specs.Files.{each}
 use Rattle.paper.specs.Maps.{openLook, recordLook}
@@ -41,7 +41,7 @@ look-most : (b : Bool) (s : ℕ) (ns : List ℕ) → length (spaced s) ≤ 11 �
 look-most true s ns h g = omega arith
 look-most false s ns h g = omega (arith, length-append (spaced s) (spacedAll ns))
 
-module _ (m : List ℕ) (bytes : (i : ℕ) → byteAt m i < byteLimit) where
+module _ (m : List ℕ) (bytes : Bytes m) where
   part-count-most : (x : ℕ) → partCountAt m x ≤ mostParts
   unfolding partCountAt
   part-count-most x = few (byteAt m (rowFrom x + 2 + symbolBytes)) (leb (byteAt m (rowFrom x + 2 + symbolBytes)) mostParts) refl

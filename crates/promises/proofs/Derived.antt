@@ -1,6 +1,6 @@
 -- Demand 2: each step is one published rule; a finished map is the statements' own; reading and writing undo each other.
 use mathlib.Core.Path.{_≡_, refl, sym, subst, ap, ap₂, _∙_}
-use mathlib.Core.Logic.{_⊎_, _↔_}
+use mathlib.Core.Logic.{_↔_}
 use mathlib.Core.Bool.{Bool, true, false, _&&_}
 use mathlib.Core.List.{List, [], _∷_, _++_}
 use mathlib.Core.Option.{some}
@@ -34,7 +34,7 @@ use Rattle.rules.proofs.Bridge.{Ready, ready-sound, outcomeOf, bridge, Left, by
 use Rattle.maps.specs.Bytes.{mapped, drawnMap, mapBytesOf}
 use Rattle.promises.specs.FromFiles.{Bytes, Accepted, FromFile, NothingPending, IsMap}
 use Rattle.promises.specs.Demands.{Demand2}
-use Rattle.promises.proofs.Reaching.{ready-of, step-taken, all-bytes, file-ok, loaded-is, viewed, list-is-steps}
+use Rattle.promises.proofs.Reaching.{ready-of, step-taken, file-ok, loaded-is, viewed, list-is-steps}
 
 one-rule : (d : List ℕ) → Bytes d → (i k : ℕ) (e : List ℕ) → stepBytes d i ≡ out 0 k e
     → Carried (tableOf d) (runOf d) i k (runOf e) × (tableOf e ≡ tableOf d) × (soundBytes e ≡ true)
@@ -156,7 +156,7 @@ read-then-written s b before d h lent l =
     let g = load-accepted s before d h in
     let f = g .0 in
     let a : Accepted s f = record { bytes = b; end = g .1; read = g .2 } in
-    let e : fileBytes f ≡ s = sym (read-written s (all-bytes s b) f (g .1) (g .2) .bytes) in
+    let e : fileBytes f ≡ s = sym (read-written s b f (g .1) (g .2) .bytes) in
     ap (λ (u : List ℕ). writtenBytes u lent) (loaded-is s before d f (g .1) (g .2) h)
     ∙ loaded-written f (file-ok s f a) lent l
     ∙ ap (λ (x : List ℕ). answer 0 (length x) (x ++ replicate (longestFile - length x) 0)) e

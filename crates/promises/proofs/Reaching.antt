@@ -1,16 +1,14 @@
 -- Bytes reached from a file view as runs reached in the paper, and stay sound; a list of steps is the paper's.
 use mathlib.Core.Path.{_≡_, refl, sym, subst, ap, ap₂, _∙_}
-use mathlib.Core.Logic.{_⊎_}
 use mathlib.Core.Bool.{Bool, true, false}
 use mathlib.Core.List.{List, [], _∷_}
-use Prim.Native.Nat.{ℕ, zero, suc, _+_, _-_, _<_}
+use Prim.Native.Nat.{ℕ, zero, suc, _+_, _-_}
 use native.Mathlib.Numerals.{add-one}
 use native.Mathlib.Omega.{arith}
 use borrow.Author.Tests.{eqb-true, eq-eqb}
 use lib.Dec.{eqb, ltb, leb}
 use lib.ListN.{length, take}
 use Rattle.base.specs.Choice.{pick}
-use Rattle.base.specs.Lists.{All}
 use Rattle.paper.specs.Sizes.{room}
 use Rattle.paper.specs.Refusals.{noRoom, noSuchPlace, hasClashed}
 use Rattle.paper.specs.Tables.{Table}
@@ -33,7 +31,7 @@ use Rattle.effects.specs.Changes.{applied}
 use Rattle.rules.specs.Plans.{Plan, wait, plan, planOf}
 use Rattle.rules.specs.Bytes.{Out, out, performedBytes, takenBytes, stepBytes, onwardBytes, allTaken, stepsBytes}
 use Rattle.rules.proofs.Bridge.{Ready, ready-sound, outcomeOf, bridge, Left, bytesOf, taken-left}
-use Rattle.promises.specs.FromFiles.{Bytes, Accepted, FromFile, loaded, stepped, Along, none-left, one-more, ListEnds, all-done, stops, NothingPending, AtEnd}
+use Rattle.promises.specs.FromFiles.{Bytes, Accepted, FromFile, loaded, stepped, Along, none-left, one-more, ListEnds, all-done, stops}
 
 -- sound bytes are ready for a step
 pub ready-of : (d : List ℕ) → length d ≡ runBytes → soundBytes d ≡ true → Bytes d → Ready d
@@ -65,12 +63,8 @@ pub record Viewed (f : File) (n : ℕ) (d : List ℕ) : Type 0 where
   pub table : tableOf d ≡ f .table
   pub reached : Reached (f .table) (f .statements) n (runOf d)
 
-pub all-bytes : (l : List ℕ) → Bytes l → All (λ b. b < 256) l
-all-bytes [] b = tt
-all-bytes (x ∷ l) b = (b 0, all-bytes l (λ i. b (suc i)))
-
 pub file-ok : (s : List ℕ) (f : File) → Accepted s f → FileOk (f .table) (f .statements)
-file-ok s f a = read-written s (all-bytes s (a .bytes)) f (a .end) (a .read) .ok
+file-ok s f a = read-written s (a .bytes) f (a .end) (a .read) .ok
 
 pub loaded-is : (s before d : List ℕ) (f : File) (at : ℕ) → readFile s ≡ got f at → loadBytes s before ≡ answer 0 0 d → d ≡ loadedBytes f
 unfolding loadBytes

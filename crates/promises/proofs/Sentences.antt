@@ -44,15 +44,15 @@ use Rattle.layout.specs.Soundness.{soundBytes}
 use Rattle.statements.specs.Loads.{loadedBytes}
 use Rattle.statements.specs.Writes.{Answer, answer, asLoaded, fileOf, writtenBytes, loadBytes}
 use Rattle.statements.proofs.Loaded.{LoadedAs, loaded-as}
-use Rattle.statements.proofs.BothWays.{as-loaded-exactly, as-loaded-view}
+use Rattle.statements.proofs.BothWays.{loaded-bytes, as-loaded-exactly, as-loaded-view}
 use Rattle.rules.specs.Bytes.{Out, out, takenBytes, stepBytes}
 use Rattle.rules.proofs.Bridge.{Ready, ready-sound, outcomeOf, place-item, Left, bytesOf, taken-left}
 use Rattle.drawing.specs.Draws.{takenPlace, afterTaken, drawnFrom, drawnBytes}
 use Rattle.drawing.proofs.DrawnViews.{DrawnLeft, drawn-same}
 use Rattle.promises.specs.FromFiles.{Bytes, Accepted, FromFile, loaded, stepped}
 use Rattle.promises.specs.Sentences.{FromAccepted, pendingOf, pendingNews, isEntry, holders, pendingStatements, SameCabinet, Stands, SameStep, both-refused, both-done, cabinetOf, KeepsCabinet, ProgramEnds, Sentences}
-use Rattle.promises.proofs.KeptBytes.{Smalls, small-at, taken-kept, loaded-kept, file-small}
-use Rattle.promises.proofs.Reaching.{ready-of, taken-step, step-taken, taken-refused, all-bytes, file-ok, loaded-is, Viewed, viewed}
+use Rattle.promises.proofs.KeptBytes.{taken-kept, file-bytes}
+use Rattle.promises.proofs.Reaching.{ready-of, taken-step, step-taken, taken-refused, file-ok, loaded-is, Viewed, viewed}
 use Rattle.promises.proofs.Derived.{sound-map, load-accepted, demand-2}
 use Rattle.promises.proofs.Alike.{view-clashed, view-finished, in-paper}
 
@@ -122,7 +122,7 @@ module _ (d lent : List ℕ) (b : Bytes d) (long : length d ≡ runBytes) (s : s
         let w = load-accepted r before d e in
         let a : Accepted r (w .0) = record { bytes = c; end = w .1; read = w .2 } in
         writer-refuses .0 h (w .0) (file-ok r (w .0) a) (sym (loaded-is r before d (w .0) (w .1) (w .2) e)),
-    λ none-leaves. writer-refuses .1 (λ f ok e. none-leaves (fileBytes f) d (small-at (fileBytes f) (file-small f ok)) (loads-its-file f ok e)),
+    λ none-leaves. writer-refuses .1 (λ f ok e. none-leaves (fileBytes f) d (file-bytes f ok) (loads-its-file f ok e)),
   )
 
 -- All products keep the cabinet
@@ -404,9 +404,9 @@ same-print s s′ f f′ a a′ items said =
         ∙ sym (ap (printedRun (f′ .table) (drawnRun f′)) (c′ .unclashed))
 
 -- soundness, the length and bytes are kept
-reached-kept : (s : List ℕ) (f : File) → Accepted s f → {n : ℕ} {d : List ℕ} → FromFile s n d → Smalls d
+reached-kept : (s : List ℕ) (f : File) → Accepted s f → {n : ℕ} {d : List ℕ} → FromFile s n d → Bytes d
 reached-kept s f a (loaded before {d = d} h) =
-    subst Smalls (sym (loaded-is s before d f (a .end) (a .read) h)) (loaded-kept f (file-ok s f a))
+    subst Bytes (sym (loaded-is s before d f (a .end) (a .read) h)) (loaded-bytes f (file-ok s f a))
 reached-kept s f a (stepped {d = d} h i k {e = e} z) = taken-kept d (reached-kept s f a h) i k e (step-taken d i k e z .is)
 
 step-sound : (d : List ℕ) → Bytes d → (i k : ℕ) (e : List ℕ) → stepBytes d i ≡ out 0 k e
@@ -415,7 +415,7 @@ step-sound d b i k e h =
     let w = step-taken d i k e h in
     let r = ready-of d (w .long) (w .sound) b in
     let l = subst (λ (o : Out). Left d r (bytesOf d r o)) (w .is) (taken-left d r i) in
-    (l .ready .shaped .long, ready-sound e (l .ready), small-at e (taken-kept d (all-bytes d b) i k e (w .is)))
+    (l .ready .shaped .long, ready-sound e (l .ready), taken-kept d b i k e (w .is))
 
 pub sentences : Sentences
 sentences =
@@ -423,7 +423,7 @@ sentences =
       run-length = refl;
       run-offsets = (refl, refl, refl, refl, refl, refl, refl);
       map-length = (refl, refl, refl);
-      longest = λ s f a. no-longer s (all-bytes s (a .bytes)) f (a .end) (a .read);
+      longest = λ s f a. no-longer s (a .bytes) f (a .end) (a .read);
       writer-accepts = writer-accepts;
       writer-refuses = writer-refuses;
       no-load-leaves = no-load-leaves;
@@ -436,7 +436,7 @@ sentences =
       held-is-owners = held-is-owners;
       told-is-owners = told-is-owners;
       owner-stays = owner-stays;
-      reached-sound = λ f n d a. (view a .ready .shaped .long, ready-sound d (view a .ready), small-at d (reached-kept (a .file) f (a .accepted) (a .carried)));
+      reached-sound = λ f n d a. (view a .ready .shaped .long, ready-sound d (view a .ready), reached-kept (a .file) f (a .accepted) (a .carried));
       step-sound = step-sound;
       map-by-hand = sound-map;
       statements-held = statements-held;

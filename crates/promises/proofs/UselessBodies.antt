@@ -9,7 +9,7 @@ use borrow.Author.Tests.{eq-eqb, ltb-true}
 use lib.Dec.{ltb, lit<}
 use lib.ListN.{length, take, drop, length-replicate, getD-replicate}
 use Rattle.base.specs.Lists.{All}
-use Rattle.base.proofs.Elements.{all-getD}
+use Rattle.base.proofs.Bytes.{byte-each}
 use Rattle.base.proofs.Tests.{fst-true, snd-true}
 use Rattle.paper.specs.Sizes.{longestFile}
 use Rattle.paper.specs.Tables.{Table}
@@ -60,7 +60,7 @@ all-small [] e = tt
 all-small (b ∷ s) e = (ltb-true b 256 (fst-true (ltb b 256) (small s) e), all-small s (snd-true (ltb b 256) (small s) e))
 
 accepted : (s : List ℕ) (at : ℕ) → small s ≡ true → readFile s ≡ got (said s) at → Accepted s (said s)
-accepted s at e h = record { bytes = λ i. all-getD (λ b. b < 256) s i 0 (lit< tt) (all-small s e); end = at; read = h }
+accepted s at e h = record { bytes = byte-each s (all-small s e); end = at; read = h }
 
 ring-accepted : Accepted ringFile (said ringFile)
 unfolding readFile small

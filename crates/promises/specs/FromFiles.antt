@@ -4,8 +4,9 @@ use mathlib.Core.Path.{_≡_}
 use mathlib.Core.Logic.{_⊎_}
 use mathlib.Core.List.{List, [], _∷_, _++_}
 use mathlib.Core.Option.{some}
-use Prim.Native.Nat.{ℕ, suc, _-_, _*_, _<_}
+use Prim.Native.Nat.{ℕ, suc, _-_, _*_}
 use lib.ListN.{length, getElem?, replicate}
+pub use Rattle.base.specs.Lists.{Bytes}
 use Rattle.paper.specs.Tables.{Table}
 use Rattle.paper.specs.Runs.{Statement}
 use Rattle.paper.specs.Files.{File, got, readFile, each}
@@ -15,10 +16,6 @@ use Rattle.layout.specs.Fields.{byteAt, countOf}
 use Rattle.layout.specs.MapRows.{bytesOfRow}
 use Rattle.statements.specs.Writes.{answer, loadBytes}
 use Rattle.rules.specs.Bytes.{out, stepBytes}
-
--- every element is a byte, as of any lent slice
-abbrev pub Bytes : List ℕ → Type 0
-Bytes d = (i : ℕ) → byteAt d i < 256
 
 -- a file that loading accepts, and what it says
 pub record Accepted (s : List ℕ) (f : File) : Type 0 where

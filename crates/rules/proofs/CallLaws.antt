@@ -5,11 +5,12 @@ use mathlib.Core.List.{List}
 use Prim.Native.Nat.{ℕ, zero, suc, _+_, _≤_, _<_}
 use lib.ListN.{length, getD, drop, drop-of-length-le}
 use borrow.Author.Tests.{eq-eqb, ne-eqb}
+use Rattle.base.specs.Lists.{Bytes}
 use Rattle.base.proofs.Positions.{drop-at-element}
 use Rattle.paper.specs.Refusals.{wrongLength, notSound}
 use Rattle.layout.specs.Offsets.{runBytes}
 use Rattle.layout.specs.Soundness.{soundBytes}
-use Rattle.layout.proofs.SoundViews.{Bytes, tested, shaped, view-sound, canonical}
+use Rattle.layout.proofs.SoundViews.{tested, shaped, view-sound, canonical}
 use Rattle.rules.specs.Bytes.{Out, out, takenBytes, stepBytes, onwardBytes, allTaken, stepsBytes}
 use Rattle.rules.proofs.Bridge.{Ready, bytesOf, taken-left}
 
