@@ -3,6 +3,7 @@ use mathlib.Core.Path.{_≡_, refl, sym, ap, _∙_}
 use mathlib.Core.Bool.{Bool, true, false}
 use mathlib.Core.List.{List}
 use Prim.Native.Nat.{ℕ, suc, _+_, _-_, _≤_, _<_}
+use native.Mathlib.Nat.{zero-add}
 use native.Mathlib.Numerals.{add-one}
 use native.Mathlib.Omega.{arith}
 use lib.Dec.{ltb}
@@ -168,10 +169,7 @@ module _ (c n : ℕ) (ps qs d₀ : List ℕ) where
 first-parts : (d : List ℕ) (i n : ℕ) → n ≤ mostParts → elementsFrom (partsFrom d i mostParts 0) n 0 ≡ partsFrom d i n 0
 first-parts d i n h =
     from-same (partOf d i) (λ k. getD (partsFrom d i mostParts 0) k 0) n 0
-    (λ k a b. from-getD (partOf d i) mostParts 0 k 0 (omega arith) ∙ ap (partOf d i) (zero-plus k))
-  where
-    zero-plus : (k : ℕ) → 0 + k ≡ k
-    zero-plus k = omega arith
+    (λ k a b. from-getD (partOf d i) mostParts 0 k 0 (omega arith) ∙ ap (partOf d i) (zero-add k))
 
 pub decomposed : (d e e′ : List ℕ) (p c i k n : ℕ) (ps qs : List ℕ) → n ≤ mostParts → ps ≡ partsFrom d i mostParts 0 → qs ≡ partsFrom d k mostParts 0
     → e ≡ removedAt p d → e′ ≡ appendedAll (partStatements c (elementsFrom ps n 0) (elementsFrom qs n 0)) e

@@ -3,6 +3,7 @@ use mathlib.Core.Path.{_≡_, sym, subst, ap, _∙_}
 use mathlib.Core.Logic.{_⊎_, inl, inr, ⊎-elim}
 use mathlib.Core.List.{List, [], _∷_}
 use Prim.Native.Nat.{ℕ, suc, _+_, _-_, _*_, _≤_, _<_}
+use native.Mathlib.Nat.{add-zero}
 use native.Mathlib.Decide.{ℕ-discrete}
 use native.Mathlib.Omega.{arith}
 use lib.ListN.{length, getD, set}
@@ -97,14 +98,11 @@ module _ (d : List ℕ) (s : Shaped d) (z : Canonical d) where
       kinds : (q : ℕ) → q < countOf (appended j d) → (1 ≤ byteAt (appended j d) (itemFrom q)) × (byteAt (appended j d) (itemFrom q) ≤ 3)
       kinds q l = go (ℕ-discrete q (countOf d))
         where
-          plus-zero : (n : ℕ) → n + 0 ≡ n
-          plus-zero n = omega arith
-
           go : Dec (q ≡ countOf d) → (1 ≤ byteAt (appended j d) (itemFrom q)) × (byteAt (appended j d) (itemFrom q) ≤ 3)
           go (yes e) =
               subst (λ (n : ℕ). (1 ≤ byteAt (appended j d) (itemFrom n)) × (byteAt (appended j d) (itemFrom n) ≤ 3)) (sym e)
               (let f : byteAt (appended j d) (itemFrom (countOf d)) ≡ getD (bytesOfItem j) 0 0 =
-              subst (λ (m : ℕ). byteAt (appended j d) m ≡ getD (bytesOfItem j) 0 0) (plus-zero (itemFrom (countOf d))) (appended-in d s j h 0 (omega arith)) in
+              subst (λ (m : ℕ). byteAt (appended j d) m ≡ getD (bytesOfItem j) 0 0) (add-zero (itemFrom (countOf d))) (appended-in d s j h 0 (omega arith)) in
               (omega (arith, f, kind j .0), omega (arith, f, kind j .1)))
           go (no e) =
               let f = appended-mid d s j h (itemFrom q) (omega arith) (omega (arith, count)) in

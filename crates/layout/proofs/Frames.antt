@@ -4,6 +4,7 @@ use mathlib.Core.Bool.{Bool, true, false, _&&_}
 use mathlib.Core.List.{List}
 use mathlib.Core.Option.{none, some}
 use Prim.Native.Nat.{ℕ, _+_, _*_, _≤_, _<_}
+use native.Mathlib.Nat.{add-zero}
 use native.Mathlib.Omega.{arith}
 use borrow.Author.Tests.{ltb-true}
 use lib.Dec.{ltb, eqb}
@@ -78,11 +79,8 @@ module _ (d d′ : List ℕ) where
   unfolding itemAt
   item-same p q h =
       let a : byteAt d′ (itemFrom p) ≡ byteAt d (itemFrom q) =
-      subst (λ (m : ℕ). byteAt d′ m ≡ byteAt d (itemFrom q)) (plus-zero (itemFrom p)) (subst (λ (m : ℕ). byteAt d′ (itemFrom p + 0) ≡ byteAt d m) (plus-zero (itemFrom q)) (h 0 (omega arith))) in
+      subst (λ (m : ℕ). byteAt d′ m ≡ byteAt d (itemFrom q)) (add-zero (itemFrom p)) (subst (λ (m : ℕ). byteAt d′ (itemFrom p + 0) ≡ byteAt d m) (add-zero (itemFrom q)) (h 0 (omega arith))) in
       rw (a, h 1 (omega arith), h 2 (omega arith), h 3 (omega arith))
-    where
-      plus-zero : (m : ℕ) → m + 0 ≡ m
-      plus-zero m = omega arith
 
   pub items-same : (n p : ℕ) → Same (itemFrom p) (itemFrom (p + n)) d d′ → itemsFrom d′ n p ≡ itemsFrom d n p
   items-same n p h =

@@ -2,7 +2,7 @@
 use Prim.Native.Nat.{ℕ, suc, _+_, _-_, _≤_, _<_}
 use mathlib.Core.Path.{_≡_, refl, sym, ap, _∙_}
 use mathlib.Core.List.{List, [], _++_, append-nil}
-use native.Mathlib.Nat.{sub-zero}
+use native.Mathlib.Nat.{sub-zero, add-zero}
 use native.Mathlib.Omega.{arith}
 use lib.ListN.{length, length-append, take-append-drop}
 use Rattle.base.specs.Lists.{listFrom}
@@ -12,13 +12,10 @@ use Rattle.base.proofs.Regions.{length-put}
 use Rattle.paper.specs.Files.{each}
 use Rattle.layout.proofs.ChangeLaws.{put-then}
 
-plus-zero : (n : ℕ) → n + 0 ≡ n
-plus-zero n = omega arith
-
 -- nothing put
 pub put-nothing : (at : ℕ) (d : List ℕ) → put at [] d ≡ d
 unfolding put
-put-nothing at d = rw (append-nil, plus-zero at) (take-append-drop at d)
+put-nothing at d = rw (append-nil, add-zero at) (take-append-drop at d)
 
 -- a piece leaves the buffer's length
 pub put-long : {at : ℕ} {bs b a : List ℕ} {next : ℕ} → PutFrom at bs b a next → at + length bs ≤ length b → length a ≡ length b

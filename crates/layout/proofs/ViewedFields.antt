@@ -3,6 +3,7 @@ use mathlib.Core.Path.{_≡_, sym, ap, _∙_}
 use mathlib.Core.Bool.{false, _&&_}
 use mathlib.Core.List.{List}
 use Prim.Native.Nat.{ℕ, _+_, _-_, _≤_, _<_}
+use native.Mathlib.Nat.{zero-add}
 use native.Mathlib.Omega.{arith}
 use borrow.Author.Tests.{lt-ltb, eq-eqb, ne-eqb}
 use lib.Dec.{eqb}
@@ -23,10 +24,7 @@ module _ (d : List ℕ) where
   unfolding tableOf
   record-byte a h l =
       from-getD (recordOf d) (byteAt d recordsAt) 0 (a - byteAt d unknownsAt) noRecord (omega arith)
-      ∙ ap (recordOf d) (zero-plus (a - byteAt d unknownsAt))
-    where
-      zero-plus : (n : ℕ) → 0 + n ≡ n
-      zero-plus n = omega arith
+      ∙ ap (recordOf d) (zero-add (a - byteAt d unknownsAt))
 
   pub head-byte : (i k : ℕ) → sameHead (recordOf d i) (recordOf d k) ≡ (eqb (symbolOf d i) (symbolOf d k) && eqb (partCountOf d i) (partCountOf d k))
   unfolding recordOf

@@ -5,6 +5,7 @@ use mathlib.Core.Bool.{Bool, true, false, _&&_}
 use mathlib.Core.List.{List, [], _∷_, _++_, append-nil, append-assoc}
 use mathlib.Core.Option.{none, some}
 use Prim.Native.Nat.{ℕ, zero, suc, _+_, _-_, _*_, _/_, _%_, _≤_, _<_}
+use native.Mathlib.Nat.{zero-add}
 use native.Mathlib.Omega.{arith}
 use borrow.Author.Tests.{ltb-true, lt-ltb}
 use lib.Dec.{ltb, eqb}
@@ -222,12 +223,11 @@ module _ (d : List ℕ) (s : Shaped d) where
     appended-items : itemsFrom (appended j d) (countOf (appended j d)) 0 ≡ itemsFrom d (countOf d) 0 ++ (j ∷ [])
     appended-items =
         let one : countOf d + 1 ≡ suc (countOf d) = omega arith in
-        let zero-plus : 0 + countOf d ≡ countOf d = omega arith in
         rw (appended-count d j (s .long) h, one)
         (from-last (itemAt (appended j d)) (countOf d) 0
         ∙ ap₂ (λ (l : List Item) (k : Item). l ++ (k ∷ []))
         (items-same d (appended j d) (countOf d) 0 (λ i a b. appended-mid i (omega arith) (omega arith)))
-        (ap (itemAt (appended j d)) zero-plus ∙ decoded))
+        (ap (itemAt (appended j d)) (zero-add (countOf d)) ∙ decoded))
 
     pub appended-shaped : Shaped (appended j d)
     appended-shaped =

@@ -2,6 +2,7 @@
 use mathlib.Core.Path.{_≡_, refl, sym, subst, ap, ap₂, _∙_}
 use mathlib.Core.List.{List, [], _∷_, _++_, append-assoc, append-nil}
 use Prim.Native.Nat.{ℕ, zero, suc, _+_, _-_, _*_, _≤_, _<_}
+use native.Mathlib.Nat.{add-zero, add-suc, zero-add, suc-add, sub-zero, zero-sub, suc-sub-suc}
 use native.Mathlib.Numerals.{add-one}
 use native.Mathlib.Omega.{arith}
 use lib.ListN.{length, getD, drop, set, replicate, length-append, length-replicate, replicate-append-replicate}
@@ -13,6 +14,7 @@ use Rattle.paper.specs.Tables.{Table}
 use Rattle.paper.specs.Runs.{Run}
 use Rattle.paper.specs.Files.{each}
 use Rattle.paper.specs.Maps.{Row, lowestOf, lookOf, rowOf, mapRow, rowsFrom, mapRows}
+use Rattle.paper.proofs.StatementParts.{each-append}
 use Rattle.layout.specs.Offsets.{symbolBytes, unknownsAt, recordsAt, rowBytes, mapBytes}
 use Rattle.layout.specs.Fields.{byteAt, bytesOf, symbolOf, partCountOf, recordOf, tableOf, stateOf, runOf}
 use Rattle.layout.specs.MapRows.{lookBytes, bytesOfRow, mapOf}
@@ -26,18 +28,9 @@ use Rattle.maps.specs.Rows.{unknownsOf, lowestItems, lowsOf, recordLookO
 use Rattle.maps.proofs.Lowest.{lows-count, looked-up}
 
 drop-replicate : (k n a : ℕ) → drop k (replicate n a) ≡ replicate (n - k) a
-drop-replicate zero n a = ap (λ (m : ℕ). replicate m a) (sym (minus-zero n))
-  where
-    minus-zero : (m : ℕ) → m - 0 ≡ m
-    minus-zero m = omega arith
-drop-replicate (suc k) zero a = ap (λ (m : ℕ). replicate m a) (none k)
-  where
-    none : (m : ℕ) → 0 ≡ 0 - suc m
-    none m = omega arith
-drop-replicate (suc k) (suc n) a = drop-replicate k n a ∙ ap (λ (m : ℕ). replicate m a) (less n k)
-  where
-    less : (m l : ℕ) → m - l ≡ suc m - suc l
-    less m l = omega arith
+drop-replicate zero n a = ap (λ (m : ℕ). replicate m a) (sym (sub-zero n))
+drop-replicate (suc k) zero a = ap (λ (m : ℕ). replicate m a) (sym (zero-sub (suc k)))
+drop-replicate (suc k) (suc n) a = drop-replicate k n a ∙ ap (λ (m : ℕ). replicate m a) (sym (suc-sub-suc n k))
 
 -- bytes laid at the end of others
 module _ (rs : List ℕ) (at : ℕ) (e : length rs ≡ at) where
@@ -80,20 +73,10 @@ module _ (rs bs : List ℕ) (at k : ℕ) (ea : length rs ≡ at) (eb : length bs
       let l = behind in
       sym (ap laid (sym (append-assoc rs bs (replicate n 0))) ∙ laid-blank (rs ++ bs) n (omega arith))
 
-each-append : {A : Type 0} (w : A → List ℕ) (l m : List A) → each w (l ++ m) ≡ each w l ++ each w m
-each-append w [] m = refl
-each-append w (x ∷ l) m = rw (each-append w l m) (sym (append-assoc (w x) (each w l) (each w m)))
-
 rows-last : (t : Table) (r : Run) (k i : ℕ) → rowsFrom t r (suc k) i ≡ rowsFrom t r k i ++ (mapRow t r (i + k) ∷ [])
-rows-last t r zero i = ap (λ (n : ℕ). mapRow t r n ∷ []) (plus-zero i)
-  where
-    plus-zero : (n : ℕ) → n ≡ n + 0
-    plus-zero n = omega arith
+rows-last t r zero i = ap (λ (n : ℕ). mapRow t r n ∷ []) (sym (add-zero i))
 rows-last t r (suc k) i =
-    ap (λ (l : List Row). mapRow t r i ∷ l) (rows-last t r k (suc i) ∙ ap (λ (n : ℕ). rowsFrom t r k (suc i) ++ (mapRow t r n ∷ [])) (shift i k))
-  where
-    shift : (n m : ℕ) → suc n + m ≡ n + suc m
-    shift n m = omega arith
+    ap (λ (l : List Row). mapRow t r i ∷ l) (rows-last t r k (suc i) ∙ ap (λ (n : ℕ). rowsFrom t r k (suc i) ++ (mapRow t r n ∷ [])) (suc-add i k ∙ sym (add-suc i k)))
 
 -- row x of the run's map
 rowAt : List ℕ → ℕ → List ℕ
@@ -104,12 +87,9 @@ rows-bytes : (t : Table) (r : Run) (k : ℕ)
 rows-bytes t r k =
     ap (λ (n : ℕ). each bytesOfRow (rowsFrom t r n 0)) (add-one k)
     ∙ ap (each bytesOfRow) (rows-last t r k 0)
-    ∙ ap (λ (n : ℕ). each bytesOfRow (rowsFrom t r k 0 ++ (mapRow t r n ∷ []))) (zero-plus k)
+    ∙ ap (λ (n : ℕ). each bytesOfRow (rowsFrom t r k 0 ++ (mapRow t r n ∷ []))) (zero-add k)
     ∙ each-append bytesOfRow (rowsFrom t r k 0) (mapRow t r k ∷ [])
     ∙ ap (λ (l : List ℕ). each bytesOfRow (rowsFrom t r k 0) ++ l) (append-nil (bytesOfRow (mapRow t r k)))
-  where
-    zero-plus : (n : ℕ) → 0 + n ≡ n
-    zero-plus n = omega arith
 
 rows-more : (d : List ℕ) (x : ℕ) → rowsOf d (x + 1) ≡ rowsOf d x ++ rowAt d x
 unfolding rowsOf rowAt

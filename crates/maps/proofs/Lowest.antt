@@ -3,6 +3,7 @@ use mathlib.Core.Path.{_≡_, refl, sym, ap, _∙_}
 use mathlib.Core.Bool.{Bool, true, false}
 use mathlib.Core.List.{List, _∷_, map}
 use Prim.Native.Nat.{ℕ, zero, suc, _+_, _-_, _≤_, _<_}
+use native.Mathlib.Nat.{zero-add, sub-zero}
 use native.Mathlib.Numerals.{add-one}
 use native.Mathlib.Omega.{arith}
 use lib.ListN.{length, getD, take, set, replicate}
@@ -32,10 +33,7 @@ module _ (f : ℕ → Bool) (x y : ℕ) (l : y < x) where
 module _ (d : List ℕ) (v x : ℕ) where
   pub lowest-from-0 : firstOf (agree (endsOf d) v x) (x - 0) 0 ≡ lowestOf (endsOf d) v x
   unfolding lowestOf
-  lowest-from-0 = ap (λ (k : ℕ). firstOf (agree (endsOf d) v x) k 0) (minus-zero x)
-    where
-      minus-zero : (n : ℕ) → n - 0 ≡ n
-      minus-zero n = omega arith
+  lowest-from-0 = ap (λ (k : ℕ). firstOf (agree (endsOf d) v x) k 0) (sub-zero x)
 
   module _ (y : ℕ) (i : firstOf (agree (endsOf d) v x) (x - y) y ≡ lowestOf (endsOf d) v x) where
     pub lowest-found : (b : Bool) → SoundRun d v → x < v → y < x → b ≡ agree (endsOf d) v x y → b ≡ true
@@ -67,10 +65,7 @@ module _ (d : List ℕ) (v : ℕ) where
   no-items = push-none 0 0 zeros items
 
   item-at : (x : ℕ) → x < v → getD items x 0 ≡ lowestOf (endsOf d) v x
-  item-at x h = from-getD (lowestOf (endsOf d) v) v 0 x 0 h ∙ ap (lowestOf (endsOf d) v) (zero-plus x)
-    where
-      zero-plus : (k : ℕ) → 0 + k ≡ k
-      zero-plus k = omega arith
+  item-at x h = from-getD (lowestOf (endsOf d) v) v 0 x 0 h ∙ ap (lowestOf (endsOf d) v) (zero-add x)
 
   module _ (g : SoundRun d v) where
     fits : 0 + v ≤ length zeros
@@ -115,10 +110,7 @@ module _ (d : List ℕ) (v i n : ℕ) (w : OneRecord d v i n) where
   low-at j h =
       ap (λ (l : List ℕ). getD l j 0) lows-from
       ∙ from-getD (λ k. lowestOf (endsOf d) v (partOf d i k)) n 0 j 0 h
-      ∙ ap (λ (k : ℕ). lowestOf (endsOf d) v (partOf d i k)) (zero-plus j)
-    where
-      zero-plus : (k : ℕ) → 0 + k ≡ k
-      zero-plus k = omega arith
+      ∙ ap (λ (k : ℕ). lowestOf (endsOf d) v (partOf d i k)) (zero-add j)
 
 -- j of them put
 pub no-lows : (d : List ℕ) (v i at : ℕ) (m : List ℕ) → m ≡ put at (take 0 (lowsOf d v i)) m

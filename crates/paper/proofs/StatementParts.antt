@@ -31,7 +31,7 @@ abbrev pub ownSpan : File → ℕ → Statement → Span
 ownSpan f n q = record { start = length (bytesBefore f n); size = length (statementBytes q) }
 
 -- lists written one after the other
-each-append : {A : Type 0} (w : A → List ℕ) (l m : List A) → each w (l ++ m) ≡ each w l ++ each w m
+pub each-append : {A : Type 0} (w : A → List ℕ) (l m : List A) → each w (l ++ m) ≡ each w l ++ each w m
 each-append w [] m = refl
 each-append w (a ∷ l) m = rw append-assoc (append-after (w a) (each-append w l m))
 

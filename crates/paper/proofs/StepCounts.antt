@@ -5,7 +5,7 @@ use mathlib.Core.Bool.{Bool, true, false, _&&_}
 use mathlib.Core.List.{List, [], _∷_}
 use mathlib.Core.Option.{Option, none, some}
 use Prim.Native.Nat.{ℕ, zero, suc, _+_, _*_, _-_, _/_, _≤_, _<_}
-use native.Mathlib.Nat.{le-refl, mul-le-mul}
+use native.Mathlib.Nat.{le-refl, mul-le-mul, add-zero, add-suc}
 use native.Mathlib.Omega.{arith}
 use borrow.Author.Tests.{lt-ltb, le-ltb}
 use lib.Dec.{ltb}
@@ -200,14 +200,8 @@ module _ (t : Table) (qs : List Statement) (ok : FileOk t qs) where
 
 -- at the largest limits
 sum-up : (n k : ℕ) → sum n (λ x. x) ≤ sum (n + k) (λ x. x)
-sum-up n zero = subst (λ (m : ℕ). sum n (λ x. x) ≤ sum m (λ x. x)) (plus-zero n) (le-refl (sum n (λ x. x)))
-  where
-    plus-zero : (m : ℕ) → m ≡ m + 0
-    plus-zero m = omega arith
-sum-up n (suc k) = subst (λ (m : ℕ). sum n (λ x. x) ≤ sum m (λ x. x)) (plus-suc n k) (omega (arith, sum-up n k))
-  where
-    plus-suc : (m j : ℕ) → suc (m + j) ≡ m + suc j
-    plus-suc m j = omega arith
+sum-up n zero = subst (λ (m : ℕ). sum n (λ x. x) ≤ sum m (λ x. x)) (sym (add-zero n)) (le-refl (sum n (λ x. x)))
+sum-up n (suc k) = subst (λ (m : ℕ). sum n (λ x. x) ≤ sum m (λ x. x)) (sym (add-suc n k)) (omega (arith, sum-up n k))
 
 pairs-largest : (v : ℕ) → v ≤ 32 → pairsOf v ≤ 496
 pairs-largest v h =

@@ -5,6 +5,7 @@ use mathlib.Core.Bool.{Bool, true, false, _&&_}
 use mathlib.Core.List.{List, [], _∷_}
 use mathlib.Core.Option.{none, some}
 use Prim.Native.Nat.{ℕ, zero, suc, _+_, _-_, _≤_}
+use native.Mathlib.Nat.{sub-zero}
 use native.Mathlib.Omega.{arith}
 use borrow.Author.Tests.{eqb-true, ne-eqb}
 use lib.Dec.{eqb}
@@ -122,13 +123,10 @@ steps-left : (d e is : List ℕ) (k n : ℕ) → stepsBytes d is ≡ out (suc k)
 unfolding stepsBytes
 steps-left d e is k n h = go (eqb (length d) runBytes) refl (soundBytes d) refl h
   where
-    minus-zero : (m : ℕ) → m - 0 ≡ m
-    minus-zero m = omega arith
-
     go : (x : Bool) → eqb (length d) runBytes ≡ x → (y : Bool) → soundBytes d ≡ y
         → pick x (pick y (allTaken is 0 d) (out 17 0 d)) (out 12 0 d) ≡ out (suc k) n e → ((n ≡ 0) × (e ≡ d)) ⊎ (stepsBytes d (take n is) ≡ out 0 n e)
     go true a true b z =
-        inr (rw (a, b) (ap (λ (j : ℕ). allTaken (take j is) 0 d) (sym (minus-zero n)) ∙ stopped is 0 d k n e z .1))
+        inr (rw (a, b) (ap (λ (j : ℕ). allTaken (take j is) 0 d) (sym (sub-zero n)) ∙ stopped is 0 d k n e z .1))
     go true a false b z = inl (cc, cc)
     go false a y b z = inl (cc, cc)
 

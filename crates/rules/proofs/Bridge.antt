@@ -4,6 +4,7 @@ use mathlib.Core.Bool.{Bool, true, false}
 use mathlib.Core.List.{List, _++_}
 use mathlib.Core.Option.{none, some}
 use Prim.Native.Nat.{ℕ, zero, suc, _+_, _-_, _≤_, _<_}
+use native.Mathlib.Nat.{zero-add}
 use native.Mathlib.Omega.{arith}
 use borrow.Author.Tests.{ltb-true, ltb-false, leb-true}
 use lib.Dec.{ltb, leb, eqb}
@@ -103,10 +104,7 @@ module _ (d : List ℕ) (r : Ready d) where
 
   pub place-item : (i : ℕ) → i < countOf d → getElem? (q .pending) i ≡ some (itemAt d i)
   unfolding runOf
-  place-item i h = from-place (itemAt d) (countOf d) 0 i h ∙ ap (λ (n : ℕ). some (itemAt d n)) (zero-plus i)
-    where
-      zero-plus : (n : ℕ) → 0 + n ≡ n
-      zero-plus n = omega arith
+  place-item i h = from-place (itemAt d) (countOf d) 0 i h ∙ ap (λ (n : ℕ). some (itemAt d n)) (zero-add i)
 
   left-count : (i : ℕ) (ps : List Item) → i < countOf d → length (without (q .pending) i ++ ps) ≡ countOf d - 1 + length ps
   unfolding runOf

@@ -5,7 +5,7 @@ use mathlib.Core.Bool.{Bool, true, false, _&&_}
 use mathlib.Core.List.{List, [], _∷_, _++_, map}
 use mathlib.Core.Option.{none}
 use Prim.Native.Nat.{ℕ, zero, suc, _+_, _-_, _*_, _/_, _^_, _≤_, _<_}
-use native.Mathlib.Nat.{pow-suc}
+use native.Mathlib.Nat.{pow-suc, add-zero, add-suc, zero-add, suc-add}
 use native.Mathlib.Decide.{ℕ-discrete}
 use native.Mathlib.Omega.{arith}
 use borrow.Author.Tests.{ltb-true}
@@ -87,21 +87,12 @@ pub bytes-length : (k n : ℕ) → length (bytesOf k n) ≡ k
 bytes-length zero n = refl
 bytes-length (suc k) n = ap suc (bytes-length k (n / 256))
 
-zero-plus : (n : ℕ) → 0 + n ≡ n
-zero-plus n = omega arith
-
 -- a list is what a function gives at its places
 list-of : (f : ℕ → ℕ) (l : List ℕ) (i : ℕ) → ((k : ℕ) → k < length l → f (i + k) ≡ getD l k 0) → listFrom f (length l) i ≡ l
 list-of f [] i h = refl
 list-of f (x ∷ l) i h =
-    ap₂ (λ (a : ℕ) (m : List ℕ). a ∷ m) (ap f (plus-zero i) ∙ h 0 (omega arith))
-    (list-of f l (suc i) (λ k a. ap f (plus-suc i k) ∙ h (suc k) (omega arith)))
-  where
-    plus-zero : (n : ℕ) → n ≡ n + 0
-    plus-zero n = omega arith
-
-    plus-suc : (n k : ℕ) → suc n + k ≡ n + suc k
-    plus-suc n k = omega arith
+    ap₂ (λ (a : ℕ) (m : List ℕ). a ∷ m) (ap f (sym (add-zero i)) ∙ h 0 (omega arith))
+    (list-of f l (suc i) (λ k a. ap f (suc-add i k ∙ sym (add-suc i k)) ∙ h (suc k) (omega arith)))
 
 -- a record written: its own bytes, and all else as it was
 module _ (i : ℕ) (q : Record) (d : List ℕ) (long : length d ≡ runBytes) (hi : i < mostRecords) (few : length (q .parts) ≤ mostParts) where
@@ -176,7 +167,7 @@ module _ (i : ℕ) (q : Record) (d : List ℕ) (long : length d ≡ runBytes) (h
   written-record h = λ j. record { symbol = written-symbol h j; parts = parts j }
     where
       parts : partsFrom (withRecord i q d) i (partCountOf (withRecord i q d) i) 0 ≡ q .parts
-      parts = rw written-count (list-of (partOf (withRecord i q d) i) (q .parts) 0 (λ k l. ap (partOf (withRecord i q d) i) (zero-plus k) ∙ written-part k l))
+      parts = rw written-count (list-of (partOf (withRecord i q d) i) (q .parts) 0 (λ k l. ap (partOf (withRecord i q d) i) (zero-add k) ∙ written-part k l))
 
   -- another record stays
   written-other : (k : ℕ) → k < mostRecords → k ≢ i → partCountOf d k ≤ mostParts → recordOf (withRecord i q d) k ≡ recordOf d k
@@ -341,7 +332,7 @@ module _ (f : File) (ok : FileOk (f .table) (f .statements)) where
       filled .beside .1 i a b ∙ sized-after (t .cabinets) (t .unknowns) (length (t .records)) (length (f .statements)) i (omega arith)
 
   filling : Filling (length (t .records)) tabled
-  filling = subst (λ (n : ℕ). Filling n tabled) (zero-plus (length (t .records))) (filled .filling)
+  filling = subst (λ (n : ℕ). Filling n tabled) (zero-add (length (t .records))) (filled .filling)
 
   pub shaped : Shaped tabled
   shaped =
