@@ -1,6 +1,6 @@
 -- Laws of putting bytes into a buffer one piece after the other: two pieces, and the pieces of a list in turn.
 use Prim.Native.Nat.{ℕ, suc, _+_, _-_, _≤_, _<_}
-use mathlib.Core.Path.{_≡_, refl, sym, ap, _∙_}
+use mathlib.Core.Path.{_≡_, refl, sym, ap, subst, _∙_}
 use mathlib.Core.List.{List, [], _++_, append-nil}
 use native.Mathlib.Nat.{sub-zero, add-zero}
 use native.Mathlib.Omega.{arith}
@@ -44,6 +44,9 @@ module _ {A : Type 0} (w : A → List ℕ) (f : ℕ → A) (n at : ℕ) (d₀ : 
   none-put = record { kept = rw sub-zero refl; past = rw sub-zero refl; long = refl }
 
   module _ (i here : ℕ) (d : List ℕ) (h : EachTo i here d) where
+    pub each-long : length d ≡ length d₀
+    each-long = h .long
+
     pub all-put : n ≤ i → PutFrom at (each w (listFrom f n 0)) d₀ d here
     all-put g =
         let z : n - i ≡ 0 = omega arith in
@@ -63,18 +66,21 @@ module _ {A : Type 0} (w : A → List ℕ) (f : ℕ → A) (n at : ℕ) (d₀ : 
       split : length (leftOf i) ≡ length (w (f i)) + length (leftOf (i + 1))
       split = ap length one-left ∙ length-append (w (f i)) (leftOf (i + 1))
 
-      pub one-fits : here + length (w (f i)) ≤ length d
-      one-fits = omega (arith, h .past, h .long, split)
+      -- the i-th put as x, which f gives or which was read where it stands
+      module _ (x : A) (e : x ≡ f i) where
+        pub one-fits : here + length (w x) ≤ length d
+        one-fits = rw e (omega (arith, h .past, h .long, split))
 
-      pub one-put : (d′ : List ℕ) (next : ℕ) → PutFrom here (w (f i)) d d′ next → EachTo (i + 1) next d′
-      one-put d′ next p =
-          record {
-            kept =
-                ap (λ (k : ℕ). put k (leftOf (i + 1)) d′) (p .past)
-                ∙ ap (put (here + length (w (f i))) (leftOf (i + 1))) (p .bytes)
-                ∙ put-then here (w (f i)) (leftOf (i + 1)) d (omega (arith, h .past, h .long, split))
-                ∙ ap (λ (l : List ℕ). put here l d) (sym one-left)
-                ∙ h .kept;
-            past = omega (arith, p .past, h .past, split);
-            long = put-long p one-fits ∙ h .long;
-          }
+        pub one-put : (d′ : List ℕ) (next : ℕ) → PutFrom here (w x) d d′ next → EachTo (i + 1) next d′
+        one-put d′ next q =
+            let p : PutFrom here (w (f i)) d d′ next = subst (λ (y : A). PutFrom here (w y) d d′ next) e q in
+            record {
+              kept =
+                  ap (λ (k : ℕ). put k (leftOf (i + 1)) d′) (p .past)
+                  ∙ ap (put (here + length (w (f i))) (leftOf (i + 1))) (p .bytes)
+                  ∙ put-then here (w (f i)) (leftOf (i + 1)) d (omega (arith, h .past, h .long, split))
+                  ∙ ap (λ (l : List ℕ). put here l d) (sym one-left)
+                  ∙ h .kept;
+              past = omega (arith, p .past, h .past, split);
+              long = put-long q one-fits ∙ h .long;
+            }

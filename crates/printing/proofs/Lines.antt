@@ -11,39 +11,9 @@ use Rattle.paper.specs.Sizes.{mostParts, numberLimit}
 use Rattle.paper.specs.Files.{each}
 use Rattle.paper.specs.Programs.{decimal, newline, spaced, spacedAll, printedLook, printedRow, printedRefusal}
 use Rattle.layout.specs.Given.{Reads, byteLimit}
-use Rattle.layout.proofs.Putting.{put-long, then-put, EachTo, none-put, all-put, one-fits, one-put}
+use Rattle.layout.proofs.Putting.{put-long, then-put, EachTo, one-fits}
 use Rattle.printing.specs.Prints.{lowestAt, kindAt, symbolAt, partCountAt, partAt, partsAt, platePrinted, lookAt, rowPrinted, rowsPrinted, itemsPrinted, mapPrinted, refusedPrinted, positionPrinted, mostPrinted}
 use Rattle.printing.proofs.Pieces.{decimal-most}
-
--- the parts of a row
-module _ (m : List ℕ) (x n at : ℕ) (d₀ : List ℕ) where
-  unfoldable pub PartsTo : ℕ → ℕ → List ℕ → Type 0
-  PartsTo k here d = EachTo spaced (partAt m x) n at d₀ k here d
-
-  pub no-part-put : PartsTo 0 at d₀
-  unfolding PartsTo
-  no-part-put = none-put spaced (partAt m x) n at d₀
-
-  module _ (k here : ℕ) (d : List ℕ) (h : PartsTo k here d) where
-    pub parts-long : length d ≡ length d₀
-    unfolding PartsTo
-    parts-long = h .long
-
-    pub parts-put : n ≤ k → PutFrom at (each spaced (listFrom (partAt m x) n 0)) d₀ d here
-    unfolding PartsTo
-    parts-put g = all-put spaced (partAt m x) n at d₀ k here d h g
-
-    module _ (g : k < n) (most : at + length (each spaced (listFrom (partAt m x) n 0)) ≤ length d₀) (b : ℕ) (e : Reads (partAt m x k) byteLimit b) where
-      pub part-fits-in : here + length (spaced b) ≤ length d
-      unfolding PartsTo
-      part-fits-in =
-          subst (λ (y : ℕ). here + length (spaced y) ≤ length d) (sym (e .same)) (one-fits spaced (partAt m x) n at d₀ k here d h g most)
-
-      pub part-put : (d′ : List ℕ) (next : ℕ) → PutFrom here (spaced b) d d′ next → PartsTo (k + 1) next d′
-      unfolding PartsTo
-      part-put d′ next w =
-          one-put spaced (partAt m x) n at d₀ k here d h g most d′ next
-          (subst (λ (y : ℕ). PutFrom here (spaced y) d d′ next) (e .same) w)
 
 spaced-each : (ns : List ℕ) → spacedAll ns ≡ each spaced ns
 spaced-each [] = refl
@@ -181,34 +151,9 @@ module _ (m : List ℕ) (x at : ℕ) (d : List ℕ) (most : at + length (rowPrin
             (four-put at (decimal x) (spaced l) (printedLook (lookAt m x)) newline d room d1 p1 w1 d2 p2 w2 d3 p3 w3 d4 p4 w4)
 
 -- the lines
-module _ (m : List ℕ) (v at : ℕ) (d₀ : List ℕ) where
-  abbrev itself : ℕ → ℕ
-  itself x = x
-
-  unfoldable pub RowsTo : ℕ → ℕ → List ℕ → Type 0
-  RowsTo x here d = EachTo (rowPrinted m) itself v at d₀ x here d
-
-  pub no-row-put : RowsTo 0 at d₀
-  unfolding RowsTo
-  no-row-put = none-put (rowPrinted m) itself v at d₀
-
-  module _ (x here : ℕ) (d : List ℕ) (h : RowsTo x here d) where
-    pub rows-long : length d ≡ length d₀
-    unfolding RowsTo
-    rows-long = h .long
-
-    pub rows-put : v ≤ x → PutFrom at (rowsPrinted m v) d₀ d here
-    unfolding RowsTo
-    rows-put g = all-put (rowPrinted m) itself v at d₀ x here d h g
-
-    module _ (g : x < v) (most : at + length (rowsPrinted m v) ≤ length d₀) where
-      pub row-fits-in : here + length (rowPrinted m x) ≤ length d
-      unfolding RowsTo
-      row-fits-in = one-fits (rowPrinted m) itself v at d₀ x here d h g most
-
-      pub next-row : (d′ : List ℕ) (next : ℕ) → PutFrom here (rowPrinted m x) d d′ next → RowsTo (x + 1) next d′
-      unfolding RowsTo
-      next-row d′ next w = one-put (rowPrinted m) itself v at d₀ x here d h g most d′ next w
+pub row-fits-in : (m : List ℕ) (v at : ℕ) (d₀ : List ℕ) (x here : ℕ) (d : List ℕ) → EachTo (rowPrinted m) (λ y. y) v at d₀ x here d → x < v
+    → at + length (rowsPrinted m v) ≤ length d₀ → here + length (rowPrinted m x) ≤ length d
+row-fits-in m v at d₀ x here d h g most = one-fits (rowPrinted m) (λ y. y) v at d₀ x here d h g most x refl
 
 -- the map: its first line, and the lines
 abbrev itemsWord : List ℕ

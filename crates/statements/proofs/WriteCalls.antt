@@ -1,5 +1,5 @@
 -- Laws of the call that writes: the table, the file, and one law for each way out.
-use Prim.Native.Nat.{ℕ, _+_, _-_, _≤_, _<_}
+use Prim.Native.Nat.{ℕ, _+_, _-_, _≤_}
 use mathlib.Core.Path.{_≡_, refl, sym, ap, subst, _∙_}
 use mathlib.Core.Bool.{Bool, true, false, not}
 use mathlib.Core.List.{List, _++_, append-assoc}
@@ -13,7 +13,7 @@ use Rattle.base.specs.Lists.{listFrom}
 use Rattle.base.specs.Regions.{put}
 use Rattle.base.specs.Puts.{PutFrom}
 use Rattle.base.proofs.Froms.{from-length}
-use Rattle.paper.specs.Sizes.{mostRecords, numberLimit, room, longestFile}
+use Rattle.paper.specs.Sizes.{mostRecords, room, longestFile}
 use Rattle.paper.specs.Refusals.{wrongLength, notSound, notAsLoaded}
 use Rattle.paper.specs.Numbers.{numberBytes}
 use Rattle.paper.specs.Files.{each, recordBytes, statementBytes, tableBytes, fileBytes, paddedFile}
@@ -40,15 +40,6 @@ module _ (d m : List ℕ) (most : length (sizesBytes d) ≤ length m)
   sizes-length =
       ap length sizes-are ∙ length-append (numberBytes s) (numberBytes v ++ numberBytes r)
       ∙ ap (λ (k : ℕ). length (numberBytes s) + k) (length-append (numberBytes v) (numberBytes r))
-
-  pub S-number : s < numberLimit
-  S-number = omega (arith, es .small)
-
-  pub V-number : v < numberLimit
-  V-number = omega (arith, ev .small)
-
-  pub R-number : r < numberLimit
-  R-number = omega (arith, er .small)
 
   pub S-fits-in : 0 + length (numberBytes s) ≤ length m
   S-fits-in = omega (arith, sizes-length)
@@ -120,9 +111,6 @@ module _ (d m : List ℕ) (most : length (fileBytes (fileOf d)) ≤ length m) (e
 
   pub table-fits-in : length (tableBytes (tableOf d)) ≤ length m
   table-fits-in = omega (arith, file-length)
-
-  pub E-number : e < numberLimit
-  E-number = omega (arith, ee .small)
 
   pub E-few : e ≤ room
   E-few = omega (arith, ee .small)

@@ -7,7 +7,6 @@ use native.Mathlib.Omega.{arith}
 use borrow.Author.Tests.{eq-eqb, ne-eqb, not-true, not-false}
 use lib.Dec.{eqb}
 use lib.ListN.{length, length-append}
-use Rattle.base.specs.Lists.{listFrom}
 use Rattle.base.specs.Puts.{PutFrom}
 use Rattle.base.proofs.Ranges.{below-none, below-more, below-all, below-fails}
 use Rattle.base.proofs.Froms.{from-length}
@@ -16,10 +15,10 @@ use Rattle.paper.specs.Numbers.{numberBytes}
 use Rattle.paper.specs.Files.{each, recordBytes, statementBytes}
 use Rattle.layout.specs.Given.{Reads, byteLimit, countLimit}
 use Rattle.layout.specs.Soundness.{allAre, soundBytes}
-use Rattle.layout.specs.Fields.{byteAt, countOf, symbolOf, partCountOf, partOf, partsFrom, recordOf, recordsFrom}
+use Rattle.layout.specs.Fields.{byteAt, countOf, symbolOf, partCountOf, partOf, partsFrom, recordOf}
 use Rattle.layout.specs.Offsets.{clashAt, statementsAt, ownersAt, memosAt, pendingAt, runBytes, itemFrom}
 use Rattle.layout.proofs.SoundViews.{tested, shaped}
-use Rattle.layout.proofs.Putting.{put-long, then-put, EachTo, none-put, all-put, one-fits, one-put}
+use Rattle.layout.proofs.Putting.{put-long, then-put}
 use Rattle.statements.specs.Writes.{allStatements, asLoaded, statementAt}
 
 -- a loop over items that are to be statements: it stops, goes on, or has passed all
@@ -70,39 +69,9 @@ module _ (d : List ℕ) (a : ℕ) (ea : Reads (byteAt d clashAt) byteLimit a) wh
         loaded-tested h q eq =
             rw (← ea .same, ← ee .same, ← en .same, eq-eqb a 0 ha, eq-eqb n e hn, ← em, not-false m hm, ← ez, not-false z h) eq
 
--- the parts of a record
-module _ (d : List ℕ) (j n at : ℕ) (m₀ : List ℕ) where
-  unfoldable pub PartsTo : ℕ → ℕ → List ℕ → Type 0
-  PartsTo i here m = EachTo numberBytes (partOf d j) n at m₀ i here m
-
-  pub no-part-put : PartsTo 0 at m₀
-  unfolding PartsTo
-  no-part-put = none-put numberBytes (partOf d j) n at m₀
-
-  module _ (i here : ℕ) (m : List ℕ) (h : PartsTo i here m) where
-    pub parts-long : length m ≡ length m₀
-    unfolding PartsTo
-    parts-long = h .long
-
-    pub parts-put : n ≤ i → PutFrom at (each numberBytes (partsFrom d j n 0)) m₀ m here
-    unfolding PartsTo
-    parts-put g = all-put numberBytes (partOf d j) n at m₀ i here m h g
-
-    module _ (g : i < n) (most : at + length (each numberBytes (partsFrom d j n 0)) ≤ length m₀) (x : ℕ) (e : Reads (partOf d j i) byteLimit x) where
-      pub part-fits-in : here + length (numberBytes x) ≤ length m
-      unfolding PartsTo
-      part-fits-in =
-          subst (λ (y : ℕ). here + length (numberBytes y) ≤ length m) (sym (e .same))
-          (one-fits numberBytes (partOf d j) n at m₀ i here m h g most)
-
-      pub part-number : x < numberLimit
-      part-number = omega (arith, e .small)
-
-      pub part-put : (m′ : List ℕ) (next : ℕ) → PutFrom here (numberBytes x) m m′ next → PartsTo (i + 1) next m′
-      unfolding PartsTo
-      part-put m′ next w =
-          one-put numberBytes (partOf d j) n at m₀ i here m h g most m′ next
-          (subst (λ (y : ℕ). PutFrom here (numberBytes y) m m′ next) (e .same) w)
+-- a byte is a number that can be written
+pub byte-number : {v x : ℕ} → Reads v byteLimit x → x < numberLimit
+byte-number e = omega (arith, e .small)
 
 -- a record
 module _ (d : List ℕ) (i at : ℕ) (m : List ℕ) (most : at + length (recordBytes (recordOf d i)) ≤ length m)
@@ -122,9 +91,6 @@ module _ (d : List ℕ) (i at : ℕ) (m : List ℕ) (most : at + length (recordB
 
   pub symbol-fits-in : at + length (numberBytes s) ≤ length m
   symbol-fits-in = omega (arith, record-length)
-
-  pub count-number : c < numberLimit
-  count-number = omega (arith, ec .small)
 
   pub parts-few : partCountOf d i ≤ mostParts → c ≤ mostParts
   parts-few h = omega (arith, ec .same)
@@ -146,36 +112,9 @@ module _ (d : List ℕ) (i at : ℕ) (m : List ℕ) (most : at + length (recordB
           (then-put w2 w3 (omega (arith, record-length, w1 .past, put-long w1 symbol-fits-in)))
           (omega (arith, record-length, length-append (numberBytes c) parts)))
 
--- the records
-module _ (d : List ℕ) (n at : ℕ) (m₀ : List ℕ) where
-  unfoldable pub RecordsPutTo : ℕ → ℕ → List ℕ → Type 0
-  RecordsPutTo i here m = EachTo recordBytes (recordOf d) n at m₀ i here m
-
-  pub no-record-put : RecordsPutTo 0 at m₀
-  unfolding RecordsPutTo
-  no-record-put = none-put recordBytes (recordOf d) n at m₀
-
-  module _ (i here : ℕ) (m : List ℕ) (h : RecordsPutTo i here m) where
-    pub records-put-long : length m ≡ length m₀
-    unfolding RecordsPutTo
-    records-put-long = h .long
-
-    pub records-put : n ≤ i → PutFrom at (each recordBytes (recordsFrom d n 0)) m₀ m here
-    unfolding RecordsPutTo
-    records-put g = all-put recordBytes (recordOf d) n at m₀ i here m h g
-
-    module _ (g : i < n) (most : at + length (each recordBytes (recordsFrom d n 0)) ≤ length m₀) where
-      pub record-fits-in : here + length (recordBytes (recordOf d i)) ≤ length m
-      unfolding RecordsPutTo
-      record-fits-in = one-fits recordBytes (recordOf d) n at m₀ i here m h g most
-
-      -- a sound run's records have at most four parts
-      pub record-parts-few : length d ≡ runBytes → soundBytes d ≡ true → n ≤ mostRecords → partCountOf d i ≤ mostParts
-      record-parts-few l s k = shaped d l (tested d s) .parts i (omega arith)
-
-      pub next-record : (m′ : List ℕ) (next : ℕ) → PutFrom here (recordBytes (recordOf d i)) m m′ next → RecordsPutTo (i + 1) next m′
-      unfolding RecordsPutTo
-      next-record m′ next w = one-put recordBytes (recordOf d) n at m₀ i here m h g most m′ next w
+-- a sound run's records have at most four parts
+pub record-parts-few : (d : List ℕ) (n i : ℕ) → i < n → length d ≡ runBytes → soundBytes d ≡ true → n ≤ mostRecords → partCountOf d i ≤ mostParts
+record-parts-few d n i g l s k = shaped d l (tested d s) .parts i (omega arith)
 
 -- a statement
 module _ (d : List ℕ) (p at : ℕ) (m : List ℕ) (most : at + length (statementBytes (statementAt d p)) ≤ length m)
@@ -189,15 +128,6 @@ module _ (d : List ℕ) (p at : ℕ) (m : List ℕ) (most : at + length (stateme
   statement-length =
       ap length statement-is ∙ length-append (numberBytes c) (numberBytes a ++ numberBytes b)
       ∙ ap (λ (k : ℕ). length (numberBytes c) + k) (length-append (numberBytes a) (numberBytes b))
-
-  pub cabinet-number : c < numberLimit
-  cabinet-number = omega (arith, ec .small)
-
-  pub left-number : a < numberLimit
-  left-number = omega (arith, ea .small)
-
-  pub right-number : b < numberLimit
-  right-number = omega (arith, eb .small)
 
   pub cabinet-fits-in : at + length (numberBytes c) ≤ length m
   cabinet-fits-in = omega (arith, statement-length)
@@ -217,30 +147,3 @@ module _ (d : List ℕ) (p at : ℕ) (m : List ℕ) (most : at + length (stateme
           (then-put w1
           (then-put w2 w3 (omega (arith, statement-length, w1 .past, put-long w1 cabinet-fits-in)))
           (omega (arith, statement-length, length-append (numberBytes a) (numberBytes b))))
-
--- the statements
-module _ (d : List ℕ) (n at : ℕ) (m₀ : List ℕ) where
-  unfoldable pub StatementsPutTo : ℕ → ℕ → List ℕ → Type 0
-  StatementsPutTo i here m = EachTo statementBytes (statementAt d) n at m₀ i here m
-
-  pub no-statement-put : StatementsPutTo 0 at m₀
-  unfolding StatementsPutTo
-  no-statement-put = none-put statementBytes (statementAt d) n at m₀
-
-  module _ (i here : ℕ) (m : List ℕ) (h : StatementsPutTo i here m) where
-    pub statements-put-long : length m ≡ length m₀
-    unfolding StatementsPutTo
-    statements-put-long = h .long
-
-    pub statements-put : n ≤ i → PutFrom at (each statementBytes (listFrom (statementAt d) n 0)) m₀ m here
-    unfolding StatementsPutTo
-    statements-put g = all-put statementBytes (statementAt d) n at m₀ i here m h g
-
-    module _ (g : i < n) (most : at + length (each statementBytes (listFrom (statementAt d) n 0)) ≤ length m₀) where
-      pub statement-fits-in : here + length (statementBytes (statementAt d i)) ≤ length m
-      unfolding StatementsPutTo
-      statement-fits-in = one-fits statementBytes (statementAt d) n at m₀ i here m h g most
-
-      pub next-statement : (m′ : List ℕ) (next : ℕ) → PutFrom here (statementBytes (statementAt d i)) m m′ next → StatementsPutTo (i + 1) next m′
-      unfolding StatementsPutTo
-      next-statement m′ next w = one-put statementBytes (statementAt d) n at m₀ i here m h g most m′ next w

@@ -1,18 +1,20 @@
 -- `put_parts` meets its contract: one law of the parts for the way out, and for the turns of its loop.
-use Rattle.printing.proofs.Lines.{PartsTo, no-part-put, parts-long, parts-put, part-fits-in, part-put}
+use Rattle.paper.specs.Programs.{spaced}
+use Rattle.layout.proofs.Putting.{EachTo, none-put, each-long, all-put, one-fits, one-put}
+use Rattle.printing.specs.Prints.{partAt}
 use borrow.Author.Needs.{needs}
 use Prim.Native.Nat.{_-_}
 use Rattle.printing.proofs.put_parts.Statement.{statement}
 use Rattle.printing.proofs.put_parts.Tie as tie
 
 abbrev Inv-loop : tie.InvT-loop
-Inv-loop map x count out₀ at k₀ here₀ out k here = PartsTo map x count at out₀ k here out
+Inv-loop map x count out₀ at k₀ here₀ out k here = EachTo spaced (partAt map x) count at out₀ k here out
 
 abbrev μ-loop : tie.MeasureT-loop
 μ-loop map x count out₀ at k₀ here₀ out k here = count - k
 
 loop-holds : tie.Need-loop-holds Inv-loop μ-loop
-loop-holds c = search no-part-put
+loop-holds c = search none-put
 
 mul-byte : tie.Need-mul-byte Inv-loop μ-loop
 mul-byte c = search needs
@@ -30,7 +32,7 @@ byte-requires : tie.Need-byte-requires Inv-loop μ-loop
 byte-requires c κs = search needs
 
 put-spaced-requires : tie.Need-put-spaced-requires Inv-loop μ-loop
-put-spaced-requires c κs = search part-fits-in
+put-spaced-requires c κs = search (one-fits spaced)
 
 add-k : tie.Need-add-k Inv-loop μ-loop
 add-k c = search needs
@@ -39,13 +41,13 @@ loop-less : tie.Need-loop-less Inv-loop μ-loop
 loop-less c = search needs
 
 loop-again : tie.Need-loop-again Inv-loop μ-loop
-loop-again c = search part-put
+loop-again c = search one-put
 
 same-length : tie.Need-same-length Inv-loop μ-loop
-same-length c = search (parts-long, needs)
+same-length c = search (each-long, needs)
 
 returns : tie.Need-returns Inv-loop μ-loop
-returns c = search parts-put
+returns c = search all-put
 
 pub put-parts-spec : {M : Type 1} → statement M
 put-parts-spec =

@@ -1,5 +1,6 @@
 -- `write_file` meets its contract: one law of the file for what each callee asks, and for the way out.
-use Rattle.statements.proofs.WriteCalls.{table-fits-in, E-number, E-few, E-fits-in, statements-fit-in, file-put}
+use Rattle.statements.proofs.WritePieces.{byte-number}
+use Rattle.statements.proofs.WriteCalls.{table-fits-in, E-few, E-fits-in, statements-fit-in, file-put}
 use borrow.Author.Needs.{needs}
 use Rattle.statements.proofs.writing.write_file.Statement.{statement}
 use Rattle.statements.proofs.writing.write_file.Tie as tie
@@ -11,7 +12,7 @@ write-table-requires : tie.Need-write-table-requires
 write-table-requires c κs = search (table-fits-in, needs)
 
 write-number-requires : tie.Need-write-number-requires
-write-number-requires c κs = search (E-number, E-fits-in, needs)
+write-number-requires c κs = search (byte-number, E-fits-in, needs)
 
 write-statements-requires : tie.Need-write-statements-requires
 write-statements-requires c κs = search (E-few, statements-fit-in, needs)

@@ -1,5 +1,5 @@
 -- `write_record` meets its contract: one law of a record for what each callee asks, and for the way out.
-use Rattle.statements.proofs.WritePieces.{symbol-fits-in, count-number, count-fits-in, parts-fit-in, parts-few, record-put}
+use Rattle.statements.proofs.WritePieces.{byte-number, symbol-fits-in, count-fits-in, parts-fit-in, parts-few, record-put}
 use borrow.Author.Needs.{needs}
 use Rattle.statements.proofs.writing.write_record.Statement.{statement}
 use Rattle.statements.proofs.writing.write_record.Tie as tie
@@ -14,7 +14,7 @@ write-number-requires : tie.Need-write-number-requires
 write-number-requires c κs = search (symbol-fits-in, needs)
 
 write-number-requires-2 : tie.Need-write-number-requires-2
-write-number-requires-2 c κs = search (count-number, count-fits-in, needs)
+write-number-requires-2 c κs = search (byte-number, count-fits-in, needs)
 
 write-parts-requires : tie.Need-write-parts-requires
 write-parts-requires c κs = search (parts-few, parts-fit-in, needs)

@@ -1,5 +1,5 @@
 -- `write_statement` meets its contract: one law of a statement for what each callee asks, and for the way out.
-use Rattle.statements.proofs.WritePieces.{cabinet-number, left-number, right-number, cabinet-fits-in, left-fits-in, right-fits-in, statement-put}
+use Rattle.statements.proofs.WritePieces.{byte-number, cabinet-fits-in, left-fits-in, right-fits-in, statement-put}
 use borrow.Author.Needs.{needs}
 use Rattle.statements.proofs.writing.write_statement.Statement.{statement}
 use Rattle.statements.proofs.writing.write_statement.Tie as tie
@@ -38,13 +38,13 @@ wide-requires-3 : tie.Need-wide-requires-3
 wide-requires-3 c κs = search needs
 
 write-number-requires : tie.Need-write-number-requires
-write-number-requires c κs = search (cabinet-number, cabinet-fits-in, needs)
+write-number-requires c κs = search (byte-number, cabinet-fits-in, needs)
 
 write-number-requires-2 : tie.Need-write-number-requires-2
-write-number-requires-2 c κs = search (left-number, left-fits-in, needs)
+write-number-requires-2 c κs = search (byte-number, left-fits-in, needs)
 
 write-number-requires-3 : tie.Need-write-number-requires-3
-write-number-requires-3 c κs = search (right-number, right-fits-in, needs)
+write-number-requires-3 c κs = search (byte-number, right-fits-in, needs)
 
 same-length : tie.Need-same-length
 same-length c = search needs
