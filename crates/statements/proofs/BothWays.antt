@@ -15,7 +15,6 @@ use Rattle.paper.specs.Runs.{Statement, Run, asItem, initial, Sound}
 use Rattle.paper.specs.Files.{File, got, readFile, fileBytes, paddedFile}
 use Rattle.paper.specs.Reached.{StatementOk, FileOk}
 use Rattle.paper.specs.Replies.{AsLoaded}
-use Rattle.paper.specs.declared.Item.{Item}
 use Rattle.paper.proofs.RoundTrip.{written-read}
 use Rattle.layout.specs.Offsets.{runBytes}
 use Rattle.layout.specs.Fields.{tableOf, runOf}
