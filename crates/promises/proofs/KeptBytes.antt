@@ -189,7 +189,7 @@ pub file-bytes : (f : File) → FileOk (f .table) (f .statements) → Bytes (fil
 unfolding fileBytes
 file-bytes f ok =
     byte-each (tableBytes (f .table) ++ (numberBytes (length (f .statements)) ++ each statementBytes (f .statements)))
-    (    all-append Byte (tableBytes (f .table)) (numberBytes (length (f .statements)) ++ each statementBytes (f .statements)) (table-small (f .table) (ok .table))
+    (all-append Byte (tableBytes (f .table)) (numberBytes (length (f .statements)) ++ each statementBytes (f .statements)) (table-small (f .table) (ok .table))
     (all-append Byte (numberBytes (length (f .statements))) (each statementBytes (f .statements))
     (number-small (length (f .statements)) (omega (arith, ok .count)))
     (each-small statementBytes (StatementOk (f .table)) (statement-small (f .table) (ok .table)) (f .statements) (ok .statements))))
