@@ -2,16 +2,17 @@
 use mathlib.Core.Path.{_≡_, refl, sym, ap, subst, _∙_}
 use mathlib.Core.Logic.{inl, inr}
 use mathlib.Core.Bool.{true}
-use mathlib.Core.List.{List}
+use mathlib.Core.List.{List, _++_}
 use mathlib.Core.Option.{none, some}
-use Prim.Native.Nat.{ℕ, _≤_}
+use Prim.Native.Nat.{ℕ, _+_, _≤_}
 use native.Mathlib.Omega.{arith}
 use borrow.Author.Tests.{eq-eqb, ne-eqb}
-use lib.ListN.{length}
+use lib.ListN.{length, take, drop, length-append, length-take}
 use mir.Syntax.{w8}
 use mir.Val.{Fits}
 use Rattle.base.specs.Puts.{PutFrom}
-use Rattle.paper.specs.Sizes.{mostUnknowns}
+use Rattle.base.specs.Regions.{put}
+use Rattle.paper.specs.Sizes.{mostUnknowns, longestFile}
 use Rattle.paper.specs.Tables.{Table, TableOk}
 use Rattle.paper.specs.Files.{File, Read, got, fault, readFile}
 use Rattle.paper.specs.Reached.{FileOk}
@@ -34,7 +35,7 @@ use Rattle.promises.specs.FromFiles.{Accepted, AtEnd}
 use Rattle.promises.specs.Sentences.{ProgramEnds}
 use Rattle.promises.proofs.Reaching.{Viewed, viewed, file-ok}
 use Rattle.promises.proofs.Sentences.{sentences}
-use Rattle.mapping.specs.Runs.{Ran}
+use Rattle.mapping.specs.Runs.{Ran, TextOfInput}
 use Rattle.paper.proofs.NotZero.{refusal-not-zero}
 
 -- what loading an accepted file leaves
@@ -167,3 +168,12 @@ module _ (d : List ℕ) (long : length d ≡ runBytes) (sound : soundBytes d ≡
           let k : TableOk (tableOf d) = view-sound d long (tested d sound) (λ i. omega (arith, b i)) .table in
           subst (λ (l : List ℕ). PutFrom 0 l o o′ n) (sym (ap (printedRun (tableOf d) (runOf d)) f))
           (map-printed (tableOf d) (runOf d) k map-is (ev .same) w)
+
+-- a text that was put from 0 on ends within its buffer
+pub text-within : (bs d e : List ℕ) (n : ℕ) → PutFrom 0 bs d e n → n ≤ length e
+unfolding put
+text-within bs d e n w =
+    omega (arith, w .past, ap length (w .bytes), length-append (take 0 d ++ bs) (drop (0 + length bs) d), length-append (take 0 d) bs)
+
+pub text-of-input : (file : List ℕ) (k n : ℕ) → k ≤ longestFile + 4 → n ≡ length (printed (take k file)) → TextOfInput n
+text-of-input file k n h e = record { read = take k file; most = omega (arith, length-take k file); text = e }

@@ -12,7 +12,7 @@ ghost use Rattle.layout.specs.Offsets.{runBytes};
 ghost use Rattle.layout.specs.Fields.{tableOf, runOf, clashOf};
 ghost use Rattle.layout.specs.Soundness.{soundBytes};
 ghost use Rattle.promises.specs.FromFiles.{AtEnd};
-ghost use Rattle.mapping.specs.Runs.{Ran};
+ghost use Rattle.mapping.specs.Runs.{Ran, TextOfInput};
 ghost use Rattle.printing.specs.Prints.{mostPrinted};
 
 // The last number of the longest file can start at 835, and five bytes may have to be seen to refuse it.
@@ -62,18 +62,21 @@ fn print(file: &[u8], out: &mut [u8]) -> usize
     print_run(&run, out)
 }
 
-// Prints what is printed of a file.
-pub fn print_file(file: &[u8]) {
+// Prints what is printed of a file; gives the text's length.
+pub fn print_file(file: &[u8]) -> usize
+    ensures { λ r. ⌜ r ≡ length (printed (now (file .entry))) ⌝ }
+{
     let mut out = [0u8; TEXT_BYTES];
     let end = print(file, &mut out);
-    if end <= TEXT_BYTES {
-        io::write_all(STDOUT_FILENO, &out[0..end]);
-    }
+    io::write_all(STDOUT_FILENO, &out[0..end]);
+    end
 }
 
-// The map program: prints what is printed of the file on standard input.
-pub fn print_input() {
+// The map program: prints what is printed of the file on standard input; gives the text's length.
+pub fn print_input() -> usize
+    ensures { λ r. ⌜ TextOfInput r ⌝ }
+{
     let mut file = [0u8; INPUT_BYTES];
     let n = io::read_full(0, &mut file);
-    print_file(&file[0..n]);
+    print_file(&file[0..n])
 }
