@@ -4,8 +4,8 @@ use Prim.Native.Nat.{_≤_, _-_}
 use lib.ListN.{length}
 use Rattle.sheets.specs.Spaces.{runSpace, fileSpace}
 use borrow.Author.Needs.{needs}
-use Rattle.sheets.proofs.calls.damage.Statement.{statement}
-use Rattle.sheets.proofs.calls.damage.Tie as tie
+use Rattle.sheets.proofs.damage.Statement.{statement}
+use Rattle.sheets.proofs.damage.Tie as tie
 
 abbrev Inv-loop : tie.InvT-loop
 Inv-loop bytes run₀ file₀ at n replies₀ runs₀ v₀ run file replies runs v = (v ≤ 256) × (n ≤ length file) × (length run ≡ runSpace) × (length file ≡ fileSpace)

@@ -4,8 +4,8 @@ use Prim.Native.Nat.{_≤_, _-_}
 use lib.ListN.{length}
 use Rattle.sheets.specs.Spaces.{runSpace}
 use borrow.Author.Needs.{needs}
-use Rattle.sheets.proofs.calls.sweep.Statement.{statement}
-use Rattle.sheets.proofs.calls.sweep.Tie as tie
+use Rattle.sheets.proofs.sweep.Statement.{statement}
+use Rattle.sheets.proofs.sweep.Tie as tie
 
 abbrev Inv-loop : tie.InvT-loop
 Inv-loop bytes run₀ at before numbers₀ v₀ run numbers v = (v ≤ 256) × (length run ≡ runSpace)

@@ -3,8 +3,8 @@ use mathlib.Core.Path.{_≡_}
 use Prim.Native.Nat.{_≤_, _-_}
 use lib.ListN.{length}
 use borrow.Author.Needs.{needs}
-use Rattle.sheets.proofs.calls.lay.Statement.{statement}
-use Rattle.sheets.proofs.calls.lay.Tie as tie
+use Rattle.sheets.proofs.lay.Statement.{statement}
+use Rattle.sheets.proofs.lay.Tie as tie
 
 abbrev Inv-loop : tie.InvT-loop
 Inv-loop pattern run₀ at count i₀ run i = (i ≤ count) × (length run ≡ length run₀)

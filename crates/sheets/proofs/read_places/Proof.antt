@@ -4,8 +4,8 @@ use Prim.Native.Nat.{_≤_, _+_, _-_, _*_}
 use lib.ListN.{length}
 use Rattle.sheets.specs.Spaces.{listSpace}
 use borrow.Author.Needs.{needs}
-use Rattle.sheets.proofs.calls.read_places.Statement.{statement}
-use Rattle.sheets.proofs.calls.read_places.Tie as tie
+use Rattle.sheets.proofs.read_places.Statement.{statement}
+use Rattle.sheets.proofs.read_places.Tie as tie
 
 abbrev Inv-loop : tie.InvT-loop
 Inv-loop bytes places₀ at₀ i₀ places at i = (i ≤ listSpace) × (length places ≡ listSpace) × (at ≡ 2 * i + 2)
