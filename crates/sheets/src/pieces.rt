@@ -1,13 +1,20 @@
 // A sheet's bytes, 0 beyond its end, and the hash that stands for a buffer.
+ghost use mathlib.Core.Path.{_≡_};
 ghost use Prim.Native.Nat.{_≤_, _<_};
-ghost use lib.ListN.{length};
+ghost use lib.ListN.{length, getD};
+ghost use Rattle.sheets.specs.Hashes.{folded, hashFrom};
 
 // The largest prime below 2^55: 258 times it fits 64 bits.
 const PRIME: u64 = 36028797018963913;
 
 // The byte at `at`.
-pub fn byte(sheet: &[u8], at: usize) -> u8 {
-    if at < sheet.len() { sheet[at] } else { 0 }
+pub fn byte(sheet: &[u8], at: usize) -> u8
+    ensures { λ r. ⌜ r ≡ getD (now (sheet .entry)) at 0 ⌝ }
+{
+    if at < sheet.len() {
+        return sheet[at];
+    }
+    0
 }
 
 // The two bytes from `at` on, low first.
@@ -35,17 +42,23 @@ pub fn piece(sheet: &[u8], from: usize, n: usize) -> &[u8] {
 }
 
 // A hash with one number more.
-pub fn fold(h: u64, x: u64) -> u64 {
+pub fn fold(h: u64, x: u64) -> u64
+    ensures { λ r. ⌜ r ≡ folded h x ⌝ }
+{
     (257 * (h % PRIME) + x % PRIME) % PRIME
 }
 
 // A hash with one byte more.
-fn fold_byte(h: u64, b: u8) -> u64 {
+fn fold_byte(h: u64, b: u8) -> u64
+    ensures { λ r. ⌜ r ≡ folded h b ⌝ }
+{
     fold(h, b as u64)
 }
 
 // The bytes as the digits of a number to base 257 after a leading 1, by what it leaves when divided by the prime.
-pub fn hash(bytes: &[u8]) -> u64 {
+pub fn hash(bytes: &[u8]) -> u64
+    ensures { λ r. ⌜ r ≡ hashFrom 1 (now (bytes .entry)) ⌝ }
+{
     let mut h = 1;
     let mut i = 0;
     while i < bytes.len() {
