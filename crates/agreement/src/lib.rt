@@ -1,5 +1,7 @@
 // Whether two unknowns agree: one function on unknowns and one on part lists call each other, and the table of met pairs goes
 // from call to call by value.
+#![tactic(auto)]
+
 mod ends; // ends.rt: owner marks followed to their end
 mod met; // met.rt: the table of met pairs
 

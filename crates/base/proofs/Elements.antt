@@ -96,7 +96,7 @@ module _ {A : Type 0} where
   all_get_d P (x ∷ l) zero d p a = a.0
   all_get_d P (x ∷ l) (suc i) d p a = all_get_d P l i d p a.1
 
-  pub all_member : (P : A → Type 0) {l : List A} {j : A} → All P l → Member j l → P j
+  pub all_member : (P : A → Type 0) {j : A} {l : List A} → All P l → Member j l → P j
   all_member P a here = a.0
   all_member P a (there h) = all_member P a.1 h
 
@@ -119,6 +119,7 @@ module _ {A : Type 0} where
 
     -- out of its place, and to the front
     pub member_front : (l : List A) (i : ℕ) (k : A) → get_elem? l i ≡ some k → Member j l → Member j (k ∷ without l i)
+    member_front [] i k e h = elim h [ ]
     member_front (x ∷ l) zero k e h = let e' : x ≡ k = cc in subst (λ (y : A). Member j (y ∷ l)) e' h
     member_front (x ∷ l) (suc i) k e h =
         ⊎_elim (λ (d : j ≡ x). there (subst (λ (y : A). Member j (y ∷ without l i)) d here))

@@ -1,1 +1,2 @@
 // Definitions and laws that belong to no document: the crate is its specs/ and proofs/.
+#![tactic(auto)]

@@ -1,4 +1,6 @@
 // Document 01's bench sheet, as calls.
+#![tactic(auto)]
+
 fn main() {
     sheets::run_sheet();
 }

@@ -1,5 +1,7 @@
 // Which rule a statement takes: decided from the sizes, the table, its cabinet's store, given as a value, and its memo, and
 // changing nothing.
+#![tactic(auto)]
+
 ghost use Rattle.std.specs.Prelude.{◌≡◌, ◌&&◌, ◌≤◌, ◌<◌, ltb, eqb, length, get_or};
 ghost use Rattle.paper.specs.Sizes.{most_cabinets, most_unknowns, most_records};
 ghost use Rattle.layout.specs.Offsets.{unknowns_at, run_bytes, memo_from};

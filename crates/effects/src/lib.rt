@@ -1,6 +1,8 @@
 // What the rules do: each function makes its rule's one change, takes the item away and appends the products in order. A local
 // rule, all but 8 and 9, is given its cabinet's store as a value and gives it back; who takes the store out of the run puts it
 // back, and what is left then is what specs/Changes says of the rule's change (proofs/StoreLaws).
+#![tactic(auto)]
+
 ghost use Rattle.std.specs.Prelude.{◌≡◌, [], ◌∷◌, ◌≤◌, ◌<◌, ltb, length, set};
 ghost use Rattle.base.specs.Choice.{pick};
 ghost use Rattle.paper.specs.Sizes.{most_cabinets, most_unknowns, most_records, most_parts};

@@ -1,4 +1,6 @@
 // The run's 59,752 bytes: named readers and writers of each field. What is sound is defined in specs/, and tested by `soundness`.
+#![tactic(auto)]
+
 mod changes; // changes.rt: writers of each field
 mod fields; // fields.rt: readers of each field
 mod offsets; // offsets.rt: where each field stands

@@ -1,4 +1,6 @@
 // The map program once more, run on more bytes than it has to read.
+#![tactic(auto)]
+
 fn main() {
     mapping::print_input();
 }

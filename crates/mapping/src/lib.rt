@@ -1,4 +1,6 @@
 // What the map program prints of a statement file: its map, `clash` or the refusal.
+#![tactic(auto)]
+
 ghost use Rattle.std.specs.Prelude.{◌≤◌, length, ◌≡◌, true};
 ghost use Rattle.base.specs.Puts.{PutFrom};
 ghost use Rattle.paper.specs.Programs.{printed_run, printed};

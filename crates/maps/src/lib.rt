@@ -1,4 +1,6 @@
 // The map of a run: its refusals, and its 352 bytes.
+#![tactic(auto)]
+
 mod lows; // lows.rt: the lowest same item of each unknown
 mod rows; // rows.rt: the rows of the map
 

@@ -1,5 +1,7 @@
 // Numbers of a statement file, read and written: groups of seven bits, lowest first, one to a byte. A byte's top bit, 128,
 // says that another group follows.
+#![tactic(auto)]
+
 ghost use Rattle.std.specs.Prelude.{◌≡◌, ◌+◌, ◌≤◌, ◌<◌, length};
 ghost use Rattle.base.specs.Puts.{PutFrom};
 ghost use Rattle.paper.specs.Sizes.{top_group, number_limit};

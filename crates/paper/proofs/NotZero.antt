@@ -44,6 +44,7 @@ file_numbered =
 first_numbered : {A : Type 0} {s : List ℕ} {m : Form A} {at k p : ℕ} → Numbered m → FirstFault s m at k p → 1 ≤ k
 first_numbered {s = s} (n_next l g) (malformed {at = at} {j = j} e) =
     ⊎_elim (λ (h : j ≡ 1). omega arith) (λ (h : j ≡ 2). omega arith) (number_refusals s at e)
+first_numbered n_end x = elim x [ ]
 first_numbered (n_next l g) (outside e h) = l
 first_numbered (n_next l g) (later {n = n} e a b f) = first_numbered (g n) f
 

@@ -1,17 +1,19 @@
 // Document 01 in definitions (specs/) and what is true of them (proofs/). The code here is what the crates above share: two
 // types, which the definitions have too, and the numbers.
+#![tactic(auto)]
+
 pub mod refusal; // refusal.rt: the refusal numbers
 pub mod sizes; // sizes.rt: limits and sizes
 
 // What reading a number finds: its value and the next position, or a refusal and the position where the number starts.
-#[derive(Drop)]
+#[derive(Clone, Copy)]
 pub enum Num {
     Got(u64, usize),
     Refused(usize, usize),
 }
 
 // "A pending item is a statement (1), an ask (2) or a news (3), each carrying cabinet, left and right, one byte each."
-#[derive(Drop)]
+#[derive(Clone, Copy)]
 pub enum Item {
     Statement { cabinet: u8, left: u8, right: u8 },
     Ask { cabinet: u8, left: u8, right: u8 },

@@ -1,4 +1,6 @@
 // The map program's text: what it prints of a map's 352 bytes, of a clash and of a refusal, put into a buffer.
+#![tactic(auto)]
+
 ghost use Rattle.std.specs.Prelude.{◌≡◌, [], ◌∷◌, ◌+◌, ◌*◌, ◌≤◌, ◌<◌, length};
 ghost use Rattle.base.specs.Lists.{list_from};
 ghost use Rattle.base.specs.Puts.{PutFrom};

@@ -1,4 +1,6 @@
 // The statement file, read: the sizes, a record, a statement, each with where the read ended; the whole file; statement n.
+#![tactic(auto)]
+
 ghost use Rattle.std.specs.Prelude.{◌≡◌, ◌+◌, ◌≤◌};
 ghost use Rattle.paper.specs.Sizes.{most_cabinets, most_unknowns, most_records, most_parts};
 ghost use Rattle.paper.specs.Files.{times, record_form, reading, statement_span, statement_part};

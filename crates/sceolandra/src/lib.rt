@@ -1,5 +1,7 @@
 // The public calls. Each takes every input: its contract, one equation over the definition that it cites, determines the reply and
 // every byte of the lent buffers, refused calls too. `number` is 0 for done, else document 01's refusal.
+#![tactic(auto)]
+
 ghost use Rattle.std.specs.Prelude.{◌≡◌};
 ghost use Rattle.paper.specs.Files.{statement_span};
 ghost use Rattle.reading.specs.Reads.{span_of};

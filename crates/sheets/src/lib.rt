@@ -1,5 +1,7 @@
 // A sheet: the public calls written as bytes, made one after the other on one run, one map and one file. Each prints a line: two
 // numbers of its reply, and a hash of the buffer that was lent. The second model writes the sheets and what they have to print.
+#![tactic(auto)]
+
 mod pieces; // pieces.rt: a sheet's bytes, and the hash
 
 ghost use Rattle.std.specs.Prelude.{◌≤◌, ◌<◌, length, ◌≡◌};

@@ -1,5 +1,7 @@
 // Whether a run's 59,752 bytes are sound: one test for each region of document 01's table, each over the definition of its
 // name in specs/Soundness.antt. The sizes are tested first, so that no sum of them can overflow.
+#![tactic(auto)]
+
 ghost use Rattle.std.specs.Prelude.{◌≡◌, ◌&&◌, ◌+◌, ◌<◌, ◌≤◌, ltb, leb, eqb, length};
 ghost use Rattle.base.specs.Choice.{pick, all_below};
 ghost use Rattle.paper.specs.Sizes.{most_cabinets, most_unknowns, most_records, room};

@@ -1,0 +1,5 @@
+-- `write_number` ends because the number falls.
+use Rattle.numbers.proofs.+write_number.Given as goal
+
+abbrev pub decreases-write_number : goal.decreases-write_number
+decreases-write_number l = l.n
