@@ -1,0 +1,7 @@
+-- `clear` is three fills that meet.
+use borrow.Author.Rules.{rules}
+use Rattle.layout.proofs.ChangeLaws.{cleared_put}
+use Rattle.layout.proofs.changes.clear.Goals as goal
+
+pub returns : goal.returns
+returns c = search cleared_put
