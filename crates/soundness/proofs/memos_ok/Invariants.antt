@@ -1,0 +1,17 @@
+-- `memos_ok` meets its contract. The loop has passed c memos that are sound.
+use Prim.Native.Nat.{◌≤◌, ◌-◌}
+use mathlib.Core.Bool.{true}
+use mathlib.Core.Path.{◌≡◌}
+use borrow.Author.Rules.{rules}
+use Rattle.base.proofs.Ranges.{below_none}
+use Rattle.base.specs.Choice.{all_below}
+use Rattle.paper.specs.Sizes.{most_cabinets}
+use Rattle.layout.specs.Soundness.{memo_ok, memos_ok}
+use Rattle.soundness.proofs.SoundRegions.{goes_on, passed_all, stops}
+use Rattle.soundness.proofs.memos_ok.Given as goal
+
+abbrev pub invariant-loop-c : goal.invariant-loop-c
+invariant-loop-c l = (l.c ≤ most_cabinets) × (all_below l.c (memo_ok l.s l.v l.run) ≡ true)
+
+abbrev pub decreases-loop-c : goal.decreases-loop-c
+decreases-loop-c l = most_cabinets - l.c

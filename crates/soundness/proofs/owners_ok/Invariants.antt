@@ -1,0 +1,17 @@
+-- `owners_ok` meets its contract. The loop has passed x owner marks that are sound.
+use Prim.Native.Nat.{◌≤◌, ◌-◌}
+use mathlib.Core.Bool.{true}
+use mathlib.Core.Path.{◌≡◌}
+use borrow.Author.Rules.{rules}
+use Rattle.base.proofs.Ranges.{below_none}
+use Rattle.base.specs.Choice.{all_below}
+use Rattle.paper.specs.Sizes.{most_unknowns}
+use Rattle.layout.specs.Soundness.{owner_ok, owners_ok}
+use Rattle.soundness.proofs.SoundRegions.{goes_on, passed_all, stops}
+use Rattle.soundness.proofs.owners_ok.Given as goal
+
+abbrev pub invariant-loop-x : goal.invariant-loop-x
+invariant-loop-x l = (l.x ≤ most_unknowns) × (all_below l.x (owner_ok l.v l.r l.run) ≡ true)
+
+abbrev pub decreases-loop-x : goal.decreases-loop-x
+decreases-loop-x l = most_unknowns - l.x

@@ -1,0 +1,25 @@
+-- `stores_ok` meets its contract. The loop has passed c stores that are sound.
+use Prim.Native.Nat.{◌≤◌, ◌-◌}
+use mathlib.Core.Bool.{true}
+use mathlib.Core.Path.{◌≡◌}
+use borrow.Author.Rules.{rules}
+use Rattle.base.proofs.Ranges.{below_none}
+use Rattle.base.specs.Choice.{all_below}
+use Rattle.paper.specs.Sizes.{most_cabinets}
+use Rattle.layout.specs.Soundness.{store_ok, stores_ok}
+use Rattle.soundness.proofs.SoundRegions.{goes_on, passed_all, stops}
+use Rattle.soundness.proofs.stores_ok.Goals as goal
+
+pub loop-c-init : goal.loop-c-init
+loop-c-init c = (search rules, search below_none)
+
+pub returns-then-not-store_ok : goal.returns-then-not-store_ok
+unfolding stores_ok
+returns-then-not-store_ok c = search stops
+
+pub loop-c-preserved : goal.loop-c-preserved
+loop-c-preserved c = (search rules, search goes_on)
+
+pub returns : goal.returns
+unfolding stores_ok
+returns c = search passed_all
