@@ -205,7 +205,7 @@ pub const NOTHING: u8 = 255;
 pub const INITIATED: u8 = 254;
 
 // The marks of one cabinet's store.
-#[derive(Drop)]
+#[derive(Clone, Copy)]
 pub struct Store {
     pub marks: [u8; sizes::MOST_UNKNOWNS],
 }

@@ -1,0 +1,27 @@
+-- The two functions meet their contracts: one law for each way out. They end because pairs not yet met fall: from unknowns to
+-- parts a pair is met, and from parts to unknowns none is lost.
+use mathlib.Core.Logic.{⊎_elim}
+use borrow.Author.Rules.{rules}
+use Prim.Native.Nat.{ℕ, ◌+◌, ◌-◌, ◌*◌, ◌≤◌, ◌<◌}
+use native.Mathlib.Omega.{arith}
+use Rattle.paper.proofs.MetPairsEnd.{unmet}
+use Rattle.layout.specs.Fields.{part_of}
+use Rattle.agreement.specs.Ends.{ends_of}
+use Rattle.agreement.specs.Met.{met_of}
+use Rattle.agreement.proofs.Ranges.{end_fits, few_ended, ended_record, part_unknown, part_few}
+use Rattle.agreement.proofs.MetTable.{not_settled, not_met}
+use Rattle.agreement.proofs.AgreementLaws.{left_ends_open, right_ends_open, heads_apart, same_counted, parts_compared, new_pair_falls, Compared, none_compared, settled_compared, part_differs, one_more_compared, all_compared}
+use Rattle.agreement.proofs.+agree_parts_agree_unknowns.Given as goal
+
+abbrev pub invariant-agree_parts-loop-j : goal.invariant-agree_parts-loop-j
+invariant-agree_parts-loop-j l = (l.j ≤ l.n) × Compared l.v (ends_of l.run) (part_of l.run l.i) (part_of l.run l.k) l.n l.j (met_of l.initial.next.words) (met_of l.next.words)
+
+abbrev pub decreases-agree_parts-loop-j : goal.decreases-agree_parts-loop-j
+decreases-agree_parts-loop-j l = l.n - l.j
+
+-- twice the pairs not yet met, and one more for parts
+abbrev pub decreases-agree_parts : goal.decreases-agree_parts
+decreases-agree_parts l = 2 * unmet l.v (met_of l.met.words) + 1
+
+abbrev pub decreases-agree_unknowns : goal.decreases-agree_unknowns
+decreases-agree_unknowns l = 2 * unmet l.v (met_of l.met.words)

@@ -1,0 +1,9 @@
+-- `bit` meets its contract: a shift is a quotient.
+use mathlib.Core.Path.{refl}
+use borrow.Author.Rules.{rules}
+use Rattle.agreement.specs.Met.{bit_of}
+use Rattle.agreement.proofs.met.bit.Goals as goal
+
+pub returns : goal.returns
+unfolding bit_of
+returns c = refl

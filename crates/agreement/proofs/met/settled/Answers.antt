@@ -1,0 +1,10 @@
+-- `settled` meets its contract: one unknown first, then the table.
+use borrow.Author.Rules.{rules}
+use Rattle.agreement.proofs.MetTable.{settled_same, settled_met}
+use Rattle.agreement.proofs.met.settled.Goals as goal
+
+pub returns-then-x-y : goal.returns-then-x-y
+returns-then-x-y c = search settled_same
+
+pub returns : goal.returns
+returns c = search settled_met

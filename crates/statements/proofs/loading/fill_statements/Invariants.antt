@@ -1,0 +1,11 @@
+-- `fill_statements` meets its contract: one law of filling for each way out, and for the turns of its loop.
+use Rattle.statements.proofs.Filled.{StatementsTo, no_statement_yet, statements_long, statements_filled, statement_never_refused, room_for_one, statement_filled}
+use borrow.Author.Rules.{rules}
+use Prim.Native.Nat.{◌-◌}
+use Rattle.statements.proofs.loading.fill_statements.Given as goal
+
+abbrev pub invariant-loop-i : goal.invariant-loop-i
+invariant-loop-i l = StatementsTo l.s l.n l.count l.file l.at l.initial.run l.i l.here l.run
+
+abbrev pub decreases-loop-i : goal.decreases-loop-i
+decreases-loop-i l = l.count - l.i
