@@ -13,7 +13,7 @@ ghost use Rattle.choices.specs.Given.{StatementIn};
 use layout::Store;
 
 // What a statement a = b does at its cabinet, by its store and memo. `Dereference` carries the entry that the store has.
-#[derive(Drop)]
+#[derive(Clone, Copy)]
 pub enum Choice {
     Waits,
     Interchange,

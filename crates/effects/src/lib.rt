@@ -161,7 +161,7 @@ pub fn arrive(run: &mut [u8], s: Store, place: usize, x: u8, u: u8) -> Store
 }
 
 // The four part places of a record.
-#[derive(Drop)]
+#[derive(Clone, Copy)]
 struct Parts {
     entries: [u8; sizes::MOST_PARTS],
 }

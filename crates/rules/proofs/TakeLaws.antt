@@ -49,18 +49,12 @@ module _ (d : List ℕ) (p n : ℕ) (t : Bool) (e : t ≡ full_for n d) where
   pub room_fits : t ≡ false → Fits d p 0 → Fits d p n
   room_fits f h = record { long = h.long; count = h.count; place = h.place; enough = enough f }
 
--- 0 is none of the other variants' tags
-never : OneOf (1 ∷ 2 ∷ 3 ∷ 4 ∷ 5 ∷ 6 ∷ 7 ∷ []) 0 → ⊥
-never w =
-    ⊎_elim (λ e. omega arith) (λ w. ⊎_elim (λ e. omega arith) (λ w. ⊎_elim (λ e. omega arith) (λ w.
-    ⊎_elim (λ e. omega arith) (λ w. ⊎_elim (λ e. omega arith) (λ w. ⊎_elim (λ e. omega arith) (λ e. omega arith) w) w) w) w) w) w
-
 -- a choice that does not wait
 abbrev Moves : Choice → Type 0
-Moves q = OneOf (1 ∷ 2 ∷ 3 ∷ 4 ∷ 5 ∷ 6 ∷ 7 ∷ []) (tag_of kind.the_type q)
+Moves q = q ≡ Waits → ⊥
 
 moves_not : (d : List ℕ) (c a b : ℕ) (q : Choice) → Moves q → false ≡ waits_in (plan_of_choice d c a b q)
-moves_not d c a b Waits w = absurd (never w)
+moves_not d c a b Waits w = absurd (w refl)
 moves_not d c a b Interchange w = refl
 moves_not d c a b Memo w = refl
 moves_not d c a b (Dereference m) w = refl
@@ -73,7 +67,7 @@ moves_not d c a b Initiate w = refl
 performed_moves : (d : List ℕ) (p c a b : ℕ) (q : Choice) → Moves q → q ≡ choice_of (byte_at d unknowns_at) d c a b
     → performed_bytes d p (plan_of_choice d c a b q)
     ≡ pick (leb (count_of d - 1 + product_count d a q) room) (carried_bytes d p (plan_of_choice d c a b q)) (out no_room 0 d)
-performed_moves d p c a b Waits w e = absurd (never w)
+performed_moves d p c a b Waits w e = absurd (w refl)
 performed_moves d p c a b Interchange w e = refl
 performed_moves d p c a b Memo w e = refl
 performed_moves d p c a b (Dereference m) w e = refl
