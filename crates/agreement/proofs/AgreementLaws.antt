@@ -1,6 +1,6 @@
 -- What each way through the two functions of agreement gives, and why they end.
 use mathlib.Core.Path.{◌≡◌, refl, sym, subst, subst₂, ◌∙◌}
-use mathlib.Core.Logic.{◌⊎◌, ⊎_elim}
+use mathlib.Core.Logic.{⊎_elim}
 use mathlib.Core.Bool.{Bool, true, false, not}
 use mathlib.Core.List.{List}
 use Prim.Native.Nat.{ℕ, suc, ◌+◌, ◌-◌, ◌*◌, ◌≤◌, ◌<◌}

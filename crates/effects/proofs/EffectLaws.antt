@@ -23,7 +23,7 @@ use Rattle.layout.specs.Fields.{byte_at, count_of, part_of, parts_from}
 use Rattle.layout.specs.Changes.{removed_at, appended, appended_all, with_owner, with_pair, with_clash}
 use Rattle.layout.specs.Given.{Reads, byte_limit}
 use Rattle.layout.proofs.Views.{length_count, count_is, appended_long, appended_count}
-use Rattle.effects.specs.Changes.{nothing, mark, pair, applied}
+use Rattle.effects.specs.Changes.{nothing, pair, applied}
 use Rattle.effects.specs.Given.{Fits, Room, elements_from}
 
 -- the memo's gain, with V as read

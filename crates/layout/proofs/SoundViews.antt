@@ -19,7 +19,7 @@ use Rattle.base.proofs.Ranges.{below_each, each_below}
 use Rattle.base.proofs.Regions.{length_get}
 use Rattle.base.proofs.Bytes.{get_bytes}
 use Rattle.paper.specs.Sizes.{most_cabinets, most_unknowns, most_records, most_statements, most_parts, room, number_limit}
-use Rattle.paper.specs.Tables.{Table, RecordOk, TableOk, entries, less}
+use Rattle.paper.specs.Tables.{Table, RecordOk, TableOk, entries}
 use Rattle.paper.specs.Runs.{nothing, initiated, entry, Lesser, ItemOk, OwnerOk, MarkOk, MemoOk, ClashOk, Sound}
 use Rattle.paper.specs.declared.Item.TheVariants.{Statement as statement, Ask as ask, News as news}
 use Rattle.layout.specs.Offsets.{symbol_bytes, record_bytes, item_bytes, clash_at, clash_cabinet_at, cabinets_at, unknowns_at, records_at, statements_at, owners_at, pending_at, run_bytes, record_from, store_from, memo_from, item_from}

@@ -1,5 +1,5 @@
 -- What the calls do to a run's bytes, by name: the byte definitions of which loading and the ten rules are made.
-use Rattle.std.specs.Prelude.{List, [], ◌∷◌, ◌++◌, ℕ, suc, ◌+◌, ◌-◌, ◌*◌, length, set, replicate}
+use Rattle.std.specs.Prelude.{List, [], ◌∷◌, ◌++◌, ℕ, suc, ◌+◌, ◌-◌, length, set, replicate}
 use Rattle.base.specs.Regions.{put, get, gone}
 use Rattle.paper.specs.Sizes.{most_unknowns}
 use Rattle.paper.specs.Tables.{Record}

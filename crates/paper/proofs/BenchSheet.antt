@@ -1,7 +1,6 @@
 -- The definitions give what document 01's bench sheet says, line by line, and what our own two lists say.
 use mathlib.Core.Path.{◌≡◌, refl}
 use mathlib.Core.List.{map}
-use Prim.Native.Nat.{ℕ}
 use Rattle.paper.specs.Vectors.{answer_of, bench_sheet, own_sheet, reply_sheet}
 
 -- "proved of the definitions, as a single statement over one list"

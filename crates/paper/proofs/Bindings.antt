@@ -16,8 +16,8 @@ use Rattle.base.proofs.Changes.{upd_same, upd_other, upd_all, upd_else}
 use Rattle.base.proofs.Sums.{sum_same, sum_add, sum_const, sum_zero, sum_one}
 use Rattle.base.proofs.Elements.{total_append, total_without, all_append, all_map, all_without, all_at, member_left, member_right, member_cons, member_front}
 use Rattle.paper.specs.Tables.{Table, is_unknown, record_at}
-use Rattle.paper.specs.Runs.{Mark, nothing, initiated, entry, Statement, State, Run, as_item, initial, ItemOk}
-use Rattle.paper.specs.Rules.{with_clash, with_owner, with_mark, with_pair, part_statements, news_to, Rule, interchange, memo, dereference, identify, conflict, decompose, initiate, win, lose, arrive}
+use Rattle.paper.specs.Runs.{Mark, initiated, entry, Statement, State, Run, as_item, initial, ItemOk}
+use Rattle.paper.specs.Rules.{with_clash, with_mark, with_pair, part_statements, news_to, Rule, interchange, memo, dereference, identify, conflict, decompose, initiate, win, lose, arrive}
 use Rattle.paper.specs.Reached.{FileOk, Reached}
 use Rattle.paper.specs.Counts.{told, holds, news_of}
 use Rattle.paper.specs.declared.Item.{Item}

@@ -12,9 +12,9 @@ use Rattle.base.specs.Choice.{pick, upd}
 use Rattle.base.specs.Lists.{without, All, Member, here, there, Zip, z_here, z_there}
 use Rattle.base.proofs.Changes.{upd_all}
 use Rattle.base.proofs.Elements.{all_append, all_without, all_at, member_left, member_right, member_cons, member_front, member_map}
-use Rattle.paper.specs.Tables.{Table, is_unknown, is_record, record_at, less, same_head}
-use Rattle.paper.specs.Runs.{entry, Statement, State, Run, as_item, initial, MemoOk, StateOk, ItemOk}
-use Rattle.paper.specs.Rules.{with_clash, with_owner, with_mark, with_pair, Mem, part_statements, news_to, Rule, interchange, memo, dereference, identify, conflict, decompose, initiate, win, lose, arrive}
+use Rattle.paper.specs.Tables.{Table, is_unknown, record_at, less}
+use Rattle.paper.specs.Runs.{Statement, State, Run, as_item, initial, MemoOk, StateOk, ItemOk}
+use Rattle.paper.specs.Rules.{with_pair, Mem, part_statements, news_to, Rule, interchange, memo, dereference, identify, conflict, decompose, initiate, win, lose, arrive}
 use Rattle.paper.specs.Reached.{FileOk, Reached}
 use Rattle.paper.specs.Alike.{Stated, stated, Alike, given, back, via, part, Clash}
 use Rattle.paper.specs.declared.Item.{Item}

@@ -2,10 +2,9 @@
 use mathlib.Core.Path.{◌≡◌, refl, sym, ap, ◌∙◌}
 use mathlib.Core.Logic.{◌↔◌}
 use mathlib.Core.List.{List, [], ◌∷◌}
-use mathlib.Core.Option.{none, some}
 use Prim.Native.Nat.{ℕ, zero, suc, ◌+◌}
 use native.Mathlib.Omega.{arith}
-use lib.ListN.{length, take, get_elem?}
+use lib.ListN.{take}
 use Rattle.paper.specs.Tables.{Table}
 use Rattle.paper.specs.Runs.{Run}
 use Rattle.paper.specs.Steps.{Outcome, refused, done, step, listed, steps}

@@ -1,17 +1,17 @@
 -- Locality: a statement's step reads and changes its own cabinet alone.
 use mathlib.Core.Path.{◌≡◌, refl, sym, ap, ap₂, ◌∙◌}
-use mathlib.Core.Bool.{Bool, true, false}
-use mathlib.Core.List.{List, [], ◌∷◌}
+use mathlib.Core.Bool.{Bool}
+use mathlib.Core.List.{List}
 use mathlib.Core.Option.{Option, none, some}
 use Prim.Native.Nat.{ℕ}
-use lib.ListN.{length, get_elem?}
+use lib.ListN.{get_elem?}
 use Rattle.base.specs.Choice.{pick, upd}
 use Rattle.base.specs.Lists.{without}
 use Rattle.base.proofs.Changes.{upd_same}
 use Rattle.paper.specs.Tables.{Table}
 use Rattle.paper.specs.Runs.{Mark, Statement, State, Run}
 use Rattle.paper.specs.Rules.{after, Carried}
-use Rattle.paper.specs.Steps.{Local, Act, waits, acts, act, it_waits, takes, local, effect, Outcome, refused, done, performed, step}
+use Rattle.paper.specs.Steps.{Local, Act, waits, acts, act, local, effect, Outcome, refused, done, performed, step}
 use Rattle.paper.specs.Reached.{FileOk, Reached}
 use Rattle.paper.specs.Locality.{SameStep, both_refused, both_done}
 use Rattle.paper.specs.declared.Item.TheVariants.{Statement as statement}

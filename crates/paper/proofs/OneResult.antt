@@ -1,16 +1,15 @@
 -- At its end a run from an accepted file has clashed, exactly when its statements clash, or its map is the statements' own;
 -- so two files that say the same end alike, whatever the order of the steps.
 use mathlib.Core.Path.{◌≡◌, refl, subst, ap, ap₂, ◌∙◌}
-use mathlib.Core.Logic.{◌⊎◌, inl, inr, ⊎_elim, ◌↔◌}
+use mathlib.Core.Logic.{inl, inr, ⊎_elim, ◌↔◌}
 use mathlib.Core.List.{List, [], ◌∷◌}
-use mathlib.Core.Option.{none, some}
 use Prim.Native.Nat.{ℕ, zero, suc}
 use native.Mathlib.Omega.{arith}
 use lib.Dec.{T}
 use Rattle.paper.specs.Tables.{Table}
 use Rattle.paper.specs.Runs.{Statement, Run}
 use Rattle.paper.specs.Reached.{FileOk, Reached, Clashed, Finished, Over}
-use Rattle.paper.specs.Alike.{Alike, Clash, Agree}
+use Rattle.paper.specs.Alike.{Clash, Agree}
 use Rattle.paper.specs.Ends.{agree, end_of}
 use Rattle.paper.specs.Maps.{Row, IsRow, map_row, rows_from, map_rows}
 use Rattle.paper.specs.SameStatements.{SameItems, SameSet, OneResult, both_clash, same_map}

@@ -13,9 +13,9 @@ use Rattle.base.specs.Lists.{without, All, total, sum}
 use Rattle.base.proofs.Tests.{not_true_false}
 use Rattle.base.proofs.Sums.{sum_same, sum_const, sum_mul, sum_upd}
 use Rattle.base.proofs.Elements.{total_append, total_without}
-use Rattle.paper.specs.Tables.{Table, TableOk, is_unknown, is_record, record_at, less}
+use Rattle.paper.specs.Tables.{Table, TableOk, record_at}
 use Rattle.paper.specs.Runs.{Mark, nothing, initiated, entry, Statement, State, Run, as_item, initial, ItemOk, StateOk, Sound}
-use Rattle.paper.specs.Rules.{with_clash, with_owner, with_mark, with_pair, add, part_statements, news_to, Rule, interchange, memo, dereference, identify, conflict, decompose, initiate, win, lose, arrive, Carried}
+use Rattle.paper.specs.Rules.{with_owner, with_mark, with_pair, add, part_statements, news_to, Rule, interchange, memo, dereference, identify, conflict, decompose, initiate, win, lose, arrive, Carried}
 use Rattle.paper.specs.Reached.{FileOk, Reached}
 use Rattle.paper.specs.declared.Item.{Item}
 use Rattle.paper.specs.declared.Item.TheVariants.{Statement as statement, Ask as ask, News as news}

@@ -1,6 +1,6 @@
 -- Until the end of a run from an accepted file some item can be taken, and every such run can be carried to an end.
 use mathlib.Core.Path.{◌≡◌, refl, sym, ap, ◌∙◌}
-use mathlib.Core.Logic.{◌⊎◌, inl, inr, ⊎_elim, ◌≢◌}
+use mathlib.Core.Logic.{inl, inr, ⊎_elim, ◌≢◌}
 use mathlib.Core.List.{List, [], ◌∷◌}
 use mathlib.Core.Option.{Option, none, some}
 use Prim.Native.Nat.{ℕ, zero, suc, ◌+◌, ◌<◌}
@@ -11,8 +11,8 @@ use Rattle.base.proofs.Elements.{member_place}
 use Rattle.paper.specs.Tables.{Table}
 use Rattle.paper.specs.Runs.{initiated, Statement, Run, ItemOk}
 use Rattle.paper.specs.Rules.{Waits, waiting, after, Carried}
-use Rattle.paper.specs.Steps.{refused, done, step}
-use Rattle.paper.specs.Reached.{FileOk, Reached, loaded, stepped, Later, same, next, Over}
+use Rattle.paper.specs.Steps.{done, step}
+use Rattle.paper.specs.Reached.{FileOk, Reached, stepped, Later, same, next, Over}
 use Rattle.paper.specs.Counts.{most_steps, told, holds}
 use Rattle.paper.specs.declared.Item.{Item}
 use Rattle.paper.specs.declared.Item.TheVariants.{Statement as statement, Ask as ask, News as news}

@@ -1,7 +1,6 @@
 -- The row of an unknown over ends: the first that agrees with it is the lowest that does.
-use mathlib.Core.Path.{◌≡◌, subst}
-use mathlib.Core.Bool.{true, false}
-use Prim.Native.Nat.{ℕ, suc, ◌+◌}
+use mathlib.Core.Path.{subst}
+use Prim.Native.Nat.{ℕ}
 use native.Mathlib.Omega.{arith}
 use lib.Dec.{T}
 use Rattle.base.proofs.Counting.{Least, least_in, least_same}

@@ -12,13 +12,12 @@ use Rattle.base.specs.Lists.{without, All}
 use Rattle.base.proofs.Changes.{upd_all}
 use Rattle.base.proofs.Elements.{all_append, all_without, all_at, all_get_d}
 use Rattle.paper.specs.Sizes.{room}
-use Rattle.paper.specs.Tables.{Table, RecordOk, TableOk, is_unknown, is_record, record_at, no_record, less}
-use Rattle.paper.specs.Runs.{Mark, nothing, initiated, entry, Statement, State, Run, as_item, initial, Lesser, ItemOk, OwnerOk, MarkOk, MemoOk, StateOk, Sound}
-use Rattle.paper.specs.Rules.{with_clash, with_owner, with_mark, with_pair, add, part_statements, news_to, Rule, interchange, memo, dereference, identify, conflict, decompose, initiate, win, lose, arrive, after, Carried}
-use Rattle.paper.specs.Steps.{refused, done, step}
+use Rattle.paper.specs.Tables.{Table, RecordOk, TableOk, is_unknown, record_at, no_record, less}
+use Rattle.paper.specs.Runs.{Mark, initiated, entry, Statement, State, Run, as_item, initial, Lesser, ItemOk, OwnerOk, MarkOk, MemoOk, StateOk, Sound}
+use Rattle.paper.specs.Rules.{with_mark, with_pair, add, part_statements, news_to, Rule, interchange, memo, dereference, identify, conflict, decompose, initiate, win, lose, arrive, Carried}
+use Rattle.paper.specs.Steps.{done, step}
 use Rattle.paper.specs.Reached.{StatementOk, FileOk, Reached, loaded, stepped}
 use Rattle.paper.specs.declared.Item.{Item}
-use Rattle.paper.specs.declared.Item.TheVariants.{Statement as statement, Ask as ask, News as news}
 use Rattle.paper.proofs.Ranks.{rank_unknown, rank_pos, less_rank, unknown_is}
 use Rattle.paper.proofs.StepIsRule.{done_is_rule}
 use Rattle.paper.proofs.Refusals.{unclashed}

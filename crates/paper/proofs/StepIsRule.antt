@@ -4,7 +4,7 @@ use mathlib.Core.Logic.{◌⊎◌, inl, inr, ⊎_elim, ◌↔◌}
 use mathlib.Core.Bool.{Bool, true, false, ◌&&◌}
 use mathlib.Core.List.{List, [], ◌∷◌, ◌++◌}
 use mathlib.Core.Option.{Option, none, some}
-use Prim.Native.Nat.{ℕ, suc, ◌≤◌, ◌<◌}
+use Prim.Native.Nat.{ℕ, ◌≤◌, ◌<◌}
 use native.Mathlib.Omega.{arith}
 use borrow.Author.Tests.{leb-true, leb-false, le-leb, lt-leb}
 use lib.Dec.{leb}
@@ -18,8 +18,8 @@ use Rattle.paper.specs.Sizes.{room}
 use Rattle.paper.specs.Refusals.{still_waits, no_room}
 use Rattle.paper.specs.Tables.{Table, is_unknown, is_record, record_at, less, same_head}
 use Rattle.paper.specs.Runs.{Mark, nothing, initiated, entry, State, Run, MemoOk, Sound}
-use Rattle.paper.specs.Rules.{with_clash, with_owner, with_mark, with_pair, Mem, part_statements, news_to, Rule, interchange, memo, dereference, identify, conflict, decompose, initiate, win, lose, arrive, Waits, waiting, after, Carried}
-use Rattle.paper.specs.Steps.{act, answer, Effect, it_waits, takes, effect, refused, done, performed, taken, running, step}
+use Rattle.paper.specs.Rules.{with_owner, with_mark, with_pair, Mem, part_statements, news_to, Rule, interchange, memo, dereference, identify, conflict, decompose, initiate, win, lose, arrive, Waits, waiting, after, Carried}
+use Rattle.paper.specs.Steps.{act, answer, Effect, it_waits, takes, effect, refused, done, performed, step}
 use Rattle.paper.specs.declared.Item.{Item}
 use Rattle.paper.specs.declared.Item.TheVariants.{Statement as statement, Ask as ask, News as news}
 use Rattle.paper.proofs.Ranks.{Kind, unknown, recorded, kind, is_unknown_lem, not_unknown, record_is, is_record_lem, less_rank, not_less_rank, rank_unknown}

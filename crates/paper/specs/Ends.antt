@@ -1,7 +1,7 @@
 -- On a run: owner marks followed to their end, agreement over the ends, and agreement with a table of met pairs.
 use Rattle.std.specs.Prelude.{◌≡◌, Bool, true, false, ◌&&◌, List, [], ◌∷◌, ℕ, zero, suc, max, min, eqb}
 use Rattle.std.proofs.Math.Option.{Option, none, some}
-use Rattle.base.specs.Choice.{pick, upd}
+use Rattle.base.specs.Choice.{upd}
 use Rattle.base.specs.Lists.{pairwise}
 use Rattle.paper.specs.Tables.{Table, Record, is_unknown, record_at, same_head}
 

@@ -1,5 +1,5 @@
 -- The statement file: what is read, in order; reading it with refusal and position; writing it; statement n.
-use Rattle.std.specs.Prelude.{true, false, ◌&&◌, List, [], ◌∷◌, ◌++◌, ℕ, zero, suc, ◌+◌, ◌-◌, ltb, length, take, drop, replicate}
+use Rattle.std.specs.Prelude.{List, [], ◌∷◌, ◌++◌, ℕ, zero, suc, ◌-◌, ltb, length, take, drop, replicate}
 use Rattle.base.specs.Choice.{pick}
 use Rattle.paper.specs.Sizes.{most_cabinets, most_unknowns, most_records, most_statements, most_parts, number_limit, longest_file}
 use Rattle.paper.specs.Refusals.{bad_number, bad_cabinets, bad_unknowns, bad_records, too_many_parts, part_not_unknown, too_many_statements, no_such_cabinet, no_such_entry, bytes_left}

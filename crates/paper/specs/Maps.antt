@@ -1,5 +1,5 @@
 -- The map's rows: from the statements alone, and computed from a run.
-use Rattle.std.specs.Prelude.{◌≡◌, true, false, List, [], ◌∷◌, map, ℕ, zero, suc, ◌<◌}
+use Rattle.std.specs.Prelude.{◌≡◌, true, List, [], ◌∷◌, map, ℕ, zero, suc, ◌<◌}
 use Rattle.base.specs.Choice.{first_of}
 use Rattle.base.specs.Lists.{AllZip}
 use Rattle.paper.specs.Tables.{Table, is_record, record_at}

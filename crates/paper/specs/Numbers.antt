@@ -1,5 +1,5 @@
 -- Numbers of a statement file, once over the number of groups and the largest last group.
-use Rattle.std.specs.Prelude.{true, false, ◌&&◌, List, [], ◌∷◌, ℕ, zero, suc, ◌+◌, ◌*◌, ◌/◌, ◌%◌, ltb, leb, length, get_or}
+use Rattle.std.specs.Prelude.{◌&&◌, List, [], ◌∷◌, ℕ, zero, suc, ◌+◌, ◌*◌, ◌/◌, ◌%◌, ltb, leb, length, get_or}
 use Rattle.base.specs.Choice.{pick}
 use Rattle.paper.specs.Sizes.{most_groups, top_group}
 use Rattle.paper.specs.Refusals.{file_ends, bad_number}

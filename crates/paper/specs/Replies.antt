@@ -1,6 +1,6 @@
 -- What each call replies, and in which order it refuses. "A refused call leaves every lent byte and gives the number, all else
 -- in its reply being 0, save a load's position and a list's finished steps (below)."
-use Rattle.std.specs.Prelude.{◌≡◌, Bool, true, false, List, [], ◌∷◌, ℕ}
+use Rattle.std.specs.Prelude.{◌≡◌, Bool, List, [], ◌∷◌, ℕ}
 use Rattle.std.proofs.Math.Option.{Option, none, some}
 use Rattle.base.specs.Choice.{pick}
 use Rattle.paper.specs.Refusals.{wrong_length, not_sound, has_clashed, items_pending, not_as_loaded}

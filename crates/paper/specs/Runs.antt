@@ -1,10 +1,9 @@
 -- The run: marks, memos and pending items, and when it is sound. No bytes: those are the crate `layout`'s.
-use Rattle.std.specs.Prelude.{◌≡◌, Bool, true, false, List, [], ◌∷◌, map, ℕ, ◌≤◌, ◌<◌, length}
+use Rattle.std.specs.Prelude.{◌≡◌, Bool, true, false, List, map, ℕ, ◌≤◌, ◌<◌, length}
 use Rattle.std.proofs.Math.Option.{Option, none, some}
-use Rattle.base.specs.Choice.{upd}
 use Rattle.base.specs.Lists.{All}
 use Rattle.paper.specs.Sizes.{most_statements, room}
-use Rattle.paper.specs.Tables.{Table, TableOk, entries, is_unknown, less}
+use Rattle.paper.specs.Tables.{Table, TableOk, entries, less}
 use Rattle.paper.specs.declared.Item.{Item}
 use Rattle.paper.specs.declared.Item.TheVariants.{Statement as statement, Ask as ask, News as news}
 

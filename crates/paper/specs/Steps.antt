@@ -1,6 +1,6 @@
 -- A step as a function that computes. A statement's step is local by its type: the table, one cabinet's store and memo,
 -- and two entries go in. An ask's is one record: owner mark, the asker's store mark, products.
-use Rattle.std.specs.Prelude.{Bool, true, false, ◌&&◌, List, [], ◌∷◌, ◌++◌, ℕ, suc, ◌+◌, leb, length}
+use Rattle.std.specs.Prelude.{Bool, true, false, ◌&&◌, List, [], ◌∷◌, ◌++◌, ℕ, suc, leb, length}
 use Rattle.std.proofs.Math.Option.{Option, none, some}
 use Rattle.std.proofs.Math.ListN.{get_elem?}
 use Rattle.base.specs.Choice.{pick, upd}

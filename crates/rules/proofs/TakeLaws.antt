@@ -1,12 +1,8 @@
 -- Laws of one item taken: the refusals in their order, and what is left where none holds.
 use mathlib.Core.Path.{◌≡◌, refl, sym, subst, ap, ◌∙◌}
-use mathlib.Core.Logic.{◌⊎◌, ⊎_elim}
 use mathlib.Core.Bool.{Bool, true, false}
-use mathlib.Core.List.{List, [], ◌∷◌}
+use mathlib.Core.List.{List, []}
 use Prim.Native.Nat.{ℕ, ◌+◌, ◌-◌, ◌≤◌, ◌<◌}
-use native.Mathlib.Omega.{arith}
-use types.Run.{OneOf}
-use denote.Enum.Declared.{tag_of}
 use lib.Dec.{ltb, leb, eqb}
 use lib.ListN.{set}
 use borrow.Author.Tests.{ltb-true, ltb-false, lt-ltb, le-ltb, le-leb, lt-leb, eq-eqb, ne_eqb}
@@ -20,7 +16,6 @@ use Rattle.layout.specs.Offsets.{clash_at, cabinets_at, unknowns_at, owners_at}
 use Rattle.layout.specs.Fields.{byte_at, count_of, item_at}
 use Rattle.layout.specs.Changes.{removed_at, appended_all, store_of, with_store}
 use Rattle.layout.specs.Given.{Reads, byte_limit, count_limit}
-use Rattle.choices.specs.contracts.Choice as kind
 use Rattle.choices.specs.declared.Choice.{Choice}
 use Rattle.choices.specs.declared.Choice.TheVariants.{Waits, Interchange, Memo, Dereference, Identify, Conflict, Decompose, Initiate}
 use Rattle.choices.specs.Choices.{choice_of}

@@ -3,15 +3,10 @@
 use mathlib.Core.Bool.{not}
 use mathlib.Core.Path.{ap}
 use borrow.Author.Rules.{rules}
-use Prim.Native.Nat.{ℕ, ◌+◌, ◌-◌, ◌*◌, ◌≤◌, ◌<◌}
 use native.Mathlib.Omega.{arith}
-use Rattle.paper.proofs.MetPairsEnd.{unmet}
-use Rattle.layout.specs.Fields.{part_of}
-use Rattle.agreement.specs.Ends.{ends_of}
-use Rattle.agreement.specs.Met.{met_of}
 use Rattle.agreement.proofs.Ranges.{end_fits, few_ended, ended_record, part_unknown, part_few}
 use Rattle.agreement.proofs.MetTable.{not_settled, not_met}
-use Rattle.agreement.proofs.AgreementLaws.{left_ends_open, right_ends_open, heads_apart, same_counted, parts_compared, new_pair_falls, Compared, none_compared, settled_compared, part_differs, one_more_compared, all_compared}
+use Rattle.agreement.proofs.AgreementLaws.{left_ends_open, right_ends_open, heads_apart, same_counted, parts_compared, new_pair_falls, none_compared, settled_compared, part_differs, one_more_compared, all_compared}
 use Rattle.agreement.proofs.+agree_parts_agree_unknowns.Goals as goal
 use Rattle.agreement.proofs.+agree_parts_agree_unknowns.Goals.{agree_parts-then-not-settled+else-not-same, agree_parts-else-not-settled}
 

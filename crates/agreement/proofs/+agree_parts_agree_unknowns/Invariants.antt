@@ -1,16 +1,11 @@
 -- The two functions meet their contracts: one law for each way out. They end because pairs not yet met fall: from unknowns to
 -- parts a pair is met, and from parts to unknowns none is lost.
-use mathlib.Core.Logic.{⊎_elim}
-use borrow.Author.Rules.{rules}
-use Prim.Native.Nat.{ℕ, ◌+◌, ◌-◌, ◌*◌, ◌≤◌, ◌<◌}
-use native.Mathlib.Omega.{arith}
+use Prim.Native.Nat.{◌+◌, ◌-◌, ◌*◌, ◌≤◌}
 use Rattle.paper.proofs.MetPairsEnd.{unmet}
 use Rattle.layout.specs.Fields.{part_of}
 use Rattle.agreement.specs.Ends.{ends_of}
 use Rattle.agreement.specs.Met.{met_of}
-use Rattle.agreement.proofs.Ranges.{end_fits, few_ended, ended_record, part_unknown, part_few}
-use Rattle.agreement.proofs.MetTable.{not_settled, not_met}
-use Rattle.agreement.proofs.AgreementLaws.{left_ends_open, right_ends_open, heads_apart, same_counted, parts_compared, new_pair_falls, Compared, none_compared, settled_compared, part_differs, one_more_compared, all_compared}
+use Rattle.agreement.proofs.AgreementLaws.{Compared}
 use Rattle.agreement.proofs.+agree_parts_agree_unknowns.Given as goal
 
 abbrev pub invariant-agree_parts-loop-j : goal.invariant-agree_parts-loop-j

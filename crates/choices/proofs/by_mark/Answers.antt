@@ -1,6 +1,5 @@
 -- `by_mark` meets its contract: a law for each answer, from the mark as it stands in the store that was given.
 use Rattle.choices.proofs.ChoiceLaws.{mark_nothing, mark_initiated, mark_met, mark_entry}
-use borrow.Author.Rules.{rules}
 use Rattle.choices.proofs.by_mark.Goals as goal
 
 pub returns-then-m : goal.returns-then-m

@@ -1,6 +1,5 @@
 -- `by_records` meets its contract: a law for each answer.
 use Rattle.choices.proofs.ChoiceLaws.{same_heads, other_heads}
-use borrow.Author.Rules.{rules}
 use Rattle.choices.proofs.by_records.Goals as goal
 
 pub returns-then-same_head : goal.returns-then-same_head

@@ -1,6 +1,5 @@
 -- `met` meets its contract: the memo's byte for two unknowns, and no for a record.
 use Rattle.choices.proofs.ChoiceLaws.{met_read, met_record}
-use borrow.Author.Rules.{rules}
 use Rattle.choices.proofs.met.Goals as goal
 
 pub returns-then-u-v : goal.returns-then-u-v

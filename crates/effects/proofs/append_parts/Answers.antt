@@ -1,12 +1,7 @@
 -- `append_parts`: after k turns the statements of the first k parts are there, and the measure is what is left of n.
 use borrow.Author.Rules.{rules}
-use Prim.Native.Nat.{◌≤◌, ◌-◌}
-use mathlib.Core.Path.{◌≡◌, refl}
+use mathlib.Core.Path.{refl}
 use native.Mathlib.Omega.{arith}
-use lib.ListN.{length}
-use Rattle.paper.specs.Rules.{part_statements}
-use Rattle.layout.specs.Changes.{appended_all}
-use Rattle.effects.specs.Given.{Room, elements_from}
 use Rattle.effects.proofs.EffectLaws.{parts_start, parts_more, parts_over, room_start, room_below, room_less}
 use Rattle.effects.proofs.append_parts.Goals as goal
 

@@ -1,6 +1,5 @@
 -- `conflict`: the clash leaves the item at its place.
 use Rattle.effects.proofs.EffectLaws.{clash_fits}
-use borrow.Author.Rules.{rules}
 use Rattle.effects.proofs.conflict.Goals as goal
 
 pub replace_by_none-requires : goal.replace_by_none-requires

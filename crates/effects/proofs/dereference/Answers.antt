@@ -1,6 +1,5 @@
 -- `dereference`: the memo's gain leaves the item at its place.
 use Rattle.effects.proofs.EffectLaws.{pair_fits}
-use borrow.Author.Rules.{rules}
 use Rattle.effects.proofs.dereference.Goals as goal
 
 pub replace_by_one-requires : goal.replace_by_one-requires

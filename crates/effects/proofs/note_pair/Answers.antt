@@ -1,6 +1,5 @@
 -- `note_pair` meets its contract: a law for each way out, with V as it is read.
 use Rattle.effects.proofs.EffectLaws.{no_pair, new_pair}
-use borrow.Author.Rules.{rules}
 use Rattle.effects.proofs.note_pair.Goals as goal
 
 pub returns-then-u-v : goal.returns-then-u-v

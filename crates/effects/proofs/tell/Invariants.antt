@@ -1,13 +1,10 @@
 -- `tell`: after c turns cabinets 0 to c - 1 have their news, and the measure is what is left of s.
-use borrow.Author.Rules.{rules}
 use Prim.Native.Nat.{◌≤◌, ◌-◌}
-use mathlib.Core.Path.{◌≡◌, refl}
-use native.Mathlib.Omega.{arith}
+use mathlib.Core.Path.{◌≡◌}
 use lib.ListN.{length}
 use Rattle.paper.specs.Rules.{news_to}
 use Rattle.layout.specs.Changes.{appended_all}
 use Rattle.effects.specs.Given.{Room}
-use Rattle.effects.proofs.EffectLaws.{news_start, news_more, news_over, room_start, room_below, room_less}
 use Rattle.effects.proofs.tell.Given as goal
 
 abbrev pub invariant-loop-c : goal.invariant-loop-c

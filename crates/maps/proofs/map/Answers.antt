@@ -22,8 +22,7 @@ pub returns-then-count-ne0 : goal.returns-then-count-ne0
 returns-then-count-ne0 c = search pending_refused
 
 pub draw-requires : goal.draw-requires
-draw-requires c =
-    (
+draw-requires c = (
   checked_run _ _ _ c.if-run-ne-RUN_BYTES.false c.sound.ensures (ap not c.if-not-sound.false) c.unknowns.ensures,
   search rules,
 )

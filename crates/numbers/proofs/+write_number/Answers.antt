@@ -1,7 +1,6 @@
 -- `write_number` meets its contract: one law of writing for each way out. It ends because the number falls.
 use Rattle.numbers.proofs.Writing.{room_for_one, short_written, room_for_rest, long_written, as_long}
 use borrow.Author.Rules.{rules}
-use Prim.Native.Nat.{ℕ, ◌<◌}
 use Rattle.numbers.proofs.+write_number.Goals as goal
 
 pub bounds-buf-at : goal.bounds-buf-at

@@ -1,6 +1,5 @@
 -- `number_at` meets its contract: the groups before `here` are read, a law for each way out; the measure is how many may follow.
-use Rattle.numbers.proofs.Reading.{SoFar, none_read, all_read, cut_short, longer_than_need, over_the_limit, number_ends, product_fits, sum_fits, group_product_fits, group_sum_fits, scale_fits, one_more}
-use borrow.Author.Rules.{rules}
+use Rattle.numbers.proofs.Reading.{SoFar}
 use Rattle.numbers.proofs.number_at.Given as goal
 
 abbrev pub invariant-loop-left : goal.invariant-loop-left

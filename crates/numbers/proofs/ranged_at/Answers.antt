@@ -1,6 +1,5 @@
 -- `ranged_at` meets its contract: one law of reading for each way out.
 use Rattle.numbers.proofs.Reading.{ranged_refused, ranged_low, ranged_high, ranged_got}
-use borrow.Author.Rules.{rules}
 use Rattle.numbers.proofs.ranged_at.Goals as goal
 
 pub returns-in_default : goal.returns-in_default

@@ -1,6 +1,5 @@
 -- `part_count` meets its contract: a greater byte counts as four.
 use Rattle.printing.proofs.Pieces.{few_parts, four_parts}
-use borrow.Author.Rules.{rules}
 use Rattle.printing.proofs.part_count.Goals as goal
 
 pub returns-then-count-le-MOST_PARTS : goal.returns-then-count-le-MOST_PARTS

@@ -1,6 +1,5 @@
 -- `print_refusal` meets its contract: the number, then the position.
 use Rattle.printing.proofs.Lines.{refusal_starts, refusal_goes_on, refusal_put}
-use borrow.Author.Rules.{rules}
 use Rattle.printing.proofs.print_refusal.Goals as goal
 
 pub put_refused-at_position-requires : goal.put_refused-at_position-requires

@@ -1,6 +1,5 @@
 -- `put_byte` is one write.
 use Rattle.printing.proofs.Pieces.{byte_put}
-use borrow.Author.Rules.{rules}
 use Rattle.printing.proofs.put_byte.Goals as goal
 
 pub returns : goal.returns

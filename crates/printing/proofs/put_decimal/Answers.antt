@@ -1,6 +1,5 @@
 -- `put_decimal` puts at most twenty digits.
 use Rattle.printing.proofs.Pieces.{twenty_fit_in, decimal_put}
-use borrow.Author.Rules.{rules}
 use Rattle.printing.proofs.put_decimal.Goals as goal
 
 pub put_digits-requires : goal.put_digits-requires

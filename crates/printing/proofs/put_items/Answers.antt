@@ -1,6 +1,5 @@
 -- `put_items` meets its contract: the word, the number of unknowns, and the newline.
 use Rattle.printing.proofs.Lines.{items_fit_in, count_fits_in, items_end, items_put}
-use borrow.Author.Rules.{rules}
 use Rattle.printing.proofs.put_items.Goals as goal
 
 pub put_word-at_count-requires : goal.put_word-at_count-requires

@@ -1,9 +1,7 @@
 -- `put_parts` meets its contract: one law of the parts for the way out, and for the turns of its loop.
 use Rattle.paper.specs.Programs.{spaced}
-use Rattle.layout.proofs.Putting.{EachTo, none_put, each_long, all_put, one_fits, one_put}
-use Rattle.printing.specs.Prints.{part_at}
+use Rattle.layout.proofs.Putting.{none_put, each_long, all_put, one_fits, one_put}
 use borrow.Author.Rules.{rules}
-use Prim.Native.Nat.{◌-◌}
 use Rattle.printing.proofs.put_parts.Goals as goal
 
 pub loop-k-init : goal.loop-k-init

@@ -1,8 +1,7 @@
 -- `put_parts` meets its contract: one law of the parts for the way out, and for the turns of its loop.
 use Rattle.paper.specs.Programs.{spaced}
-use Rattle.layout.proofs.Putting.{EachTo, none_put, each_long, all_put, one_fits, one_put}
+use Rattle.layout.proofs.Putting.{EachTo}
 use Rattle.printing.specs.Prints.{part_at}
-use borrow.Author.Rules.{rules}
 use Prim.Native.Nat.{◌-◌}
 use Rattle.printing.proofs.put_parts.Given as goal
 

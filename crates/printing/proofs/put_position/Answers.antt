@@ -1,6 +1,5 @@
 -- `put_position` meets its contract: the word, the number, and the newline.
 use Rattle.printing.proofs.Lines.{at_fits_in, position_fits_in, position_ends, position_put}
-use borrow.Author.Rules.{rules}
 use Rattle.printing.proofs.put_position.Goals as goal
 
 pub put_word-at_position-requires : goal.put_word-at_position-requires

@@ -1,6 +1,5 @@
 -- `put_refused` meets its contract: the word, then the number.
 use Rattle.printing.proofs.Lines.{refused_fits_in, number_fits_in, refused_put}
-use borrow.Author.Rules.{rules}
 use Rattle.printing.proofs.put_refused.Goals as goal
 
 pub put_word-at_number-requires : goal.put_word-at_number-requires

@@ -1,8 +1,6 @@
 -- `put_rows` meets its contract: one law of the lines for the way out, and for the turns of its loop.
-use Rattle.layout.proofs.Putting.{EachTo, none_put, each_long, all_put, one_put}
+use Rattle.layout.proofs.Putting.{EachTo}
 use Rattle.printing.specs.Prints.{row_printed}
-use Rattle.printing.proofs.Lines.{row_fits_in}
-use borrow.Author.Rules.{rules}
 use Prim.Native.Nat.{◌-◌}
 use Rattle.printing.proofs.put_rows.Given as goal
 

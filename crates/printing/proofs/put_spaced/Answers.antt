@@ -1,6 +1,5 @@
 -- `put_spaced` puts the space, then the number.
 use Rattle.printing.proofs.Pieces.{space_fits_in, number_fits_in, spaced_put}
-use borrow.Author.Rules.{rules}
 use Rattle.printing.proofs.put_spaced.Goals as goal
 
 pub put_byte-at_number-requires : goal.put_byte-at_number-requires

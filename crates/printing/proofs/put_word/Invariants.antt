@@ -1,6 +1,5 @@
 -- `put_word` meets its contract: after i turns the first i bytes have been put.
-use Rattle.printing.proofs.Pieces.{WordTo, no_byte_put, byte_fits_in, next_byte, word_long, word_put}
-use borrow.Author.Rules.{rules}
+use Rattle.printing.proofs.Pieces.{WordTo}
 use Prim.Native.Nat.{◌-◌}
 use lib.ListN.{length}
 use Rattle.printing.proofs.put_word.Given as goal

@@ -1,6 +1,5 @@
 -- `check_file` meets its contract: one law of the whole file for each way out.
 use Rattle.reading.proofs.FileChecks.{refused_in_sizes, cabinets_few, unknowns_few, entries_few, entries_fit, refused_in_records, refused_in_count, refused_in_statements, refused_bytes_left, accepted_whole}
-use borrow.Author.Rules.{rules}
 use Rattle.reading.proofs.check_file.Goals as goal
 
 pub returns-in_default : goal.returns-in_default

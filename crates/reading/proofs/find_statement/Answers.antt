@@ -1,6 +1,5 @@
 -- `find_statement` meets its contract: one law of statement n for each way out.
 use Rattle.reading.proofs.Spans.{refused_no_span, no_such_statement, cabinets_few, entries_few, entries_fit, before_refused, own_refused, own_forward, own_found}
-use borrow.Author.Rules.{rules}
 use Rattle.reading.proofs.find_statement.Goals as goal
 
 pub returns-in_default : goal.returns-in_default

@@ -1,6 +1,5 @@
 -- `no_record` meets its contract.
 use Rattle.reading.proofs.RecordFinds.{none_read}
-use borrow.Author.Rules.{rules}
 use Rattle.reading.proofs.no_record.Goals as goal
 
 pub returns : goal.returns

@@ -1,6 +1,5 @@
 -- `number_end` meets its contract, by cases on the read.
 use Rattle.reading.proofs.Ends.{number_read, number_not_read}
-use borrow.Author.Rules.{rules}
 use Rattle.reading.proofs.number_end.Goals as goal
 
 pub returns-in-Got : goal.returns-in-Got

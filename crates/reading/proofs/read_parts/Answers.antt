@@ -1,7 +1,5 @@
 -- `read_parts` meets its contract: one law of a record for each way out, and for the turns of its loop.
-use Rattle.reading.proofs.RecordFinds.{PartsSoFar, no_part_yet, parts_read, part_refused, part_read, part_fits}
-use borrow.Author.Rules.{rules}
-use Prim.Native.Nat.{◌-◌}
+use Rattle.reading.proofs.RecordFinds.{no_part_yet, parts_read, part_refused, part_read, part_fits}
 use Rattle.reading.proofs.read_parts.Goals as goal
 
 pub loop-i-init : goal.loop-i-init

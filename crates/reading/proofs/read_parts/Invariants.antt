@@ -1,6 +1,5 @@
 -- `read_parts` meets its contract: one law of a record for each way out, and for the turns of its loop.
-use Rattle.reading.proofs.RecordFinds.{PartsSoFar, no_part_yet, parts_read, part_refused, part_read, part_fits}
-use borrow.Author.Rules.{rules}
+use Rattle.reading.proofs.RecordFinds.{PartsSoFar}
 use Prim.Native.Nat.{◌-◌}
 use Rattle.reading.proofs.read_parts.Given as goal
 

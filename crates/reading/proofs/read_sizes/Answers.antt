@@ -1,6 +1,5 @@
 -- `read_sizes` meets its contract: one law of the sizes for each way out.
 use Rattle.reading.proofs.SizesRead.{cabinets_refused, unknowns_refused, records_refused, sizes_read_lem}
-use borrow.Author.Rules.{rules}
 use Rattle.reading.proofs.read_sizes.Goals as goal
 
 pub returns-in_default : goal.returns-in_default

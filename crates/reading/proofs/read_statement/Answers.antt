@@ -1,6 +1,5 @@
 -- `read_statement` meets its contract: one law of a statement for each way out.
 use Rattle.reading.proofs.StatementReads.{cabinet_refused, cabinet_fits, left_refused, right_refused, below_fits, statement_read_lem}
-use borrow.Author.Rules.{rules}
 use Rattle.reading.proofs.read_statement.Goals as goal
 
 pub returns-in_default : goal.returns-in_default

@@ -1,8 +1,5 @@
 -- `skip_records` meets its contract: one law of reading so many times for each way out, and for the turns of its loop.
-use Rattle.reading.proofs.Times.{SkippedTo, none_skipped, all_skipped, skip_refused, skip_one}
-use borrow.Author.Rules.{rules}
-use Prim.Native.Nat.{◌-◌}
-use Rattle.paper.specs.Files.{record_form}
+use Rattle.reading.proofs.Times.{none_skipped, all_skipped, skip_refused, skip_one}
 use Rattle.reading.proofs.skip_records.Goals as goal
 
 pub loop-i-init : goal.loop-i-init

@@ -1,7 +1,5 @@
 -- `skip_statements` meets its contract: one law of reading so many times for each way out, and for the turns of its loop.
-use Rattle.reading.proofs.Times.{SkippedTo, none_skipped, all_skipped, skip_refused, skip_one}
-use borrow.Author.Rules.{rules}
-use Prim.Native.Nat.{◌-◌}
+use Rattle.reading.proofs.Times.{none_skipped, all_skipped, skip_refused, skip_one}
 use Rattle.reading.proofs.skip_statements.Goals as goal
 
 pub loop-i-init : goal.loop-i-init

@@ -1,7 +1,6 @@
 -- `statement` meets its contract: the span that was found lies in the file, and is its part.
 use Rattle.reading.proofs.Spans.{part_ends, part_is}
 use native.Mathlib.Omega.{arith}
-use borrow.Author.Rules.{rules}
 use Rattle.reading.proofs.statement.Goals as goal
 
 pub slice_bounds-result-end : goal.slice_bounds-result-end

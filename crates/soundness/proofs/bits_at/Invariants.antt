@@ -1,10 +1,8 @@
 -- `bits_at` meets its contract. The loop has tested i bytes, and `clean` says whether they are 0 or 1.
 use Prim.Native.Nat.{◌≤◌, ◌-◌}
 use mathlib.Core.Path.{◌≡◌}
-use borrow.Author.Rules.{rules}
 use Rattle.base.specs.Choice.{all_below}
 use Rattle.soundness.proofs.SoundMemos.{bit_at}
-use Rattle.base.proofs.Ranges.{tested_all, tested_next, tested_none}
 use Rattle.soundness.proofs.bits_at.Given as goal
 
 abbrev pub invariant-loop-i : goal.invariant-loop-i

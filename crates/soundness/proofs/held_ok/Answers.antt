@@ -1,5 +1,4 @@
 -- `held_ok` meets its contract. The two sides of a choice.
-use borrow.Author.Rules.{rules}
 use Rattle.soundness.proofs.SoundNumbers.{chosen_below, chosen_from}
 use Rattle.soundness.proofs.held_ok.Goals as goal
 

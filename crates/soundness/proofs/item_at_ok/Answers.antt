@@ -1,5 +1,4 @@
 -- `item_at_ok` meets its contract. An item as read.
-use borrow.Author.Rules.{rules}
 use Rattle.soundness.proofs.SoundRegions.{item_read}
 use Rattle.soundness.proofs.item_at_ok.Goals as goal
 

@@ -1,5 +1,4 @@
 -- `item_ok` meets its contract. A law of SoundNumbers for each of the six answers.
-use borrow.Author.Rules.{rules}
 use Rattle.soundness.proofs.SoundNumbers.{item_ask, item_left, item_news, item_no_cabinet, item_other, item_right}
 use Rattle.soundness.proofs.item_ok.Goals as goal
 

@@ -1,11 +1,7 @@
 -- `items_ok` meets its contract. The loop has passed p places below the count that are sound; one test has the rest.
-use Prim.Native.Nat.{◌≤◌, ◌-◌}
-use mathlib.Core.Bool.{true}
-use mathlib.Core.Path.{◌≡◌}
 use borrow.Author.Rules.{rules}
 use Rattle.base.proofs.Ranges.{below_none}
-use Rattle.base.specs.Choice.{all_below}
-use Rattle.layout.specs.Soundness.{items_ok, place_ok}
+use Rattle.layout.specs.Soundness.{items_ok}
 use Rattle.soundness.proofs.SoundRegions.{goes_on, stops_below}
 use Rattle.soundness.proofs.SoundZeros.{items_rest, place_item}
 use Rattle.soundness.proofs.items_ok.Goals as goal

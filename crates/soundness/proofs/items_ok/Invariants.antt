@@ -2,12 +2,8 @@
 use Prim.Native.Nat.{◌≤◌, ◌-◌}
 use mathlib.Core.Bool.{true}
 use mathlib.Core.Path.{◌≡◌}
-use borrow.Author.Rules.{rules}
-use Rattle.base.proofs.Ranges.{below_none}
 use Rattle.base.specs.Choice.{all_below}
-use Rattle.layout.specs.Soundness.{items_ok, place_ok}
-use Rattle.soundness.proofs.SoundRegions.{goes_on, stops_below}
-use Rattle.soundness.proofs.SoundZeros.{items_rest, place_item}
+use Rattle.layout.specs.Soundness.{place_ok}
 use Rattle.soundness.proofs.items_ok.Given as goal
 
 abbrev pub invariant-loop-p : goal.invariant-loop-p

@@ -1,5 +1,4 @@
 -- `lesser` meets its contract. A law of SoundNumbers for each of the three answers.
-use borrow.Author.Rules.{rules}
 use Rattle.soundness.proofs.SoundNumbers.{lesser_no_unknown, lesser_record, lesser_unknown}
 use Rattle.soundness.proofs.lesser.Goals as goal
 

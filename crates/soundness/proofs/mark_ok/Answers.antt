@@ -1,5 +1,4 @@
 -- `mark_ok` meets its contract. A law of SoundNumbers for each kind of mark.
-use borrow.Author.Rules.{rules}
 use Rattle.soundness.proofs.SoundNumbers.{mark_entry, mark_initiated, mark_nothing}
 use Rattle.soundness.proofs.mark_ok.Goals as goal
 

@@ -1,5 +1,4 @@
 -- `memo_row_ok` meets its contract. The bytes of pairs that can stand, and the rest of the row.
-use borrow.Author.Rules.{rules}
 use Rattle.soundness.proofs.SoundMemos.{row_rest, row_stops}
 use Rattle.soundness.proofs.memo_row_ok.Goals as goal
 

@@ -1,12 +1,7 @@
 -- `memos_ok` meets its contract. The loop has passed c memos that are sound.
-use Prim.Native.Nat.{◌≤◌, ◌-◌}
-use mathlib.Core.Bool.{true}
-use mathlib.Core.Path.{◌≡◌}
 use borrow.Author.Rules.{rules}
 use Rattle.base.proofs.Ranges.{below_none}
-use Rattle.base.specs.Choice.{all_below}
-use Rattle.paper.specs.Sizes.{most_cabinets}
-use Rattle.layout.specs.Soundness.{memo_ok, memos_ok}
+use Rattle.layout.specs.Soundness.{memos_ok}
 use Rattle.soundness.proofs.SoundRegions.{goes_on, passed_all, stops}
 use Rattle.soundness.proofs.memos_ok.Goals as goal
 

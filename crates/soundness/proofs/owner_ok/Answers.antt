@@ -1,5 +1,4 @@
 -- `owner_ok` meets its contract. A law of SoundRegions for the mark as read: 255, or an entry.
-use borrow.Author.Rules.{rules}
 use Rattle.soundness.proofs.SoundRegions.{owner_entry, owner_nothing}
 use Rattle.soundness.proofs.owner_ok.Goals as goal
 

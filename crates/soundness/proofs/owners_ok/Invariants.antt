@@ -2,12 +2,9 @@
 use Prim.Native.Nat.{◌≤◌, ◌-◌}
 use mathlib.Core.Bool.{true}
 use mathlib.Core.Path.{◌≡◌}
-use borrow.Author.Rules.{rules}
-use Rattle.base.proofs.Ranges.{below_none}
 use Rattle.base.specs.Choice.{all_below}
 use Rattle.paper.specs.Sizes.{most_unknowns}
-use Rattle.layout.specs.Soundness.{owner_ok, owners_ok}
-use Rattle.soundness.proofs.SoundRegions.{goes_on, passed_all, stops}
+use Rattle.layout.specs.Soundness.{owner_ok}
 use Rattle.soundness.proofs.owners_ok.Given as goal
 
 abbrev pub invariant-loop-x : goal.invariant-loop-x

@@ -1,12 +1,7 @@
 -- `parts_ok` meets its contract. The count as read decides; the loop has passed k part places that are sound.
-use Prim.Native.Nat.{◌≤◌, ◌-◌}
-use mathlib.Core.Bool.{true}
-use mathlib.Core.Path.{◌≡◌}
 use borrow.Author.Rules.{rules}
 use Rattle.base.proofs.Ranges.{below_none}
-use Rattle.base.specs.Choice.{all_below}
-use Rattle.paper.specs.Sizes.{most_parts}
-use Rattle.soundness.proofs.SoundRegions.{part_more, part_read, part_ok, parts_few, parts_many, passed_all, stops}
+use Rattle.soundness.proofs.SoundRegions.{part_more, part_read, parts_few, parts_many, passed_all, stops}
 use Rattle.soundness.proofs.parts_ok.Goals as goal
 
 pub returns-then-n-gt-MOST_PARTS : goal.returns-then-n-gt-MOST_PARTS

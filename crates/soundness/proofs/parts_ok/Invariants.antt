@@ -2,11 +2,9 @@
 use Prim.Native.Nat.{◌≤◌, ◌-◌}
 use mathlib.Core.Bool.{true}
 use mathlib.Core.Path.{◌≡◌}
-use borrow.Author.Rules.{rules}
-use Rattle.base.proofs.Ranges.{below_none}
 use Rattle.base.specs.Choice.{all_below}
 use Rattle.paper.specs.Sizes.{most_parts}
-use Rattle.soundness.proofs.SoundRegions.{part_more, part_read, part_ok, parts_few, parts_many, passed_all, stops}
+use Rattle.soundness.proofs.SoundRegions.{part_ok}
 use Rattle.soundness.proofs.parts_ok.Given as goal
 
 abbrev pub invariant-loop-k : goal.invariant-loop-k

@@ -1,11 +1,7 @@
 -- `records_ok` meets its contract. The loop has passed i records below R that are sound; one test has the rest.
-use Prim.Native.Nat.{◌≤◌, ◌-◌}
-use mathlib.Core.Bool.{true}
-use mathlib.Core.Path.{◌≡◌}
 use borrow.Author.Rules.{rules}
 use Rattle.base.proofs.Ranges.{below_none}
-use Rattle.base.specs.Choice.{all_below}
-use Rattle.layout.specs.Soundness.{record_ok, records_ok}
+use Rattle.layout.specs.Soundness.{records_ok}
 use Rattle.soundness.proofs.SoundRegions.{goes_on, stops_below}
 use Rattle.soundness.proofs.SoundZeros.{record_parts, records_rest}
 use Rattle.soundness.proofs.records_ok.Goals as goal

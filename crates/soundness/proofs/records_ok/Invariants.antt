@@ -2,12 +2,8 @@
 use Prim.Native.Nat.{◌≤◌, ◌-◌}
 use mathlib.Core.Bool.{true}
 use mathlib.Core.Path.{◌≡◌}
-use borrow.Author.Rules.{rules}
-use Rattle.base.proofs.Ranges.{below_none}
 use Rattle.base.specs.Choice.{all_below}
-use Rattle.layout.specs.Soundness.{record_ok, records_ok}
-use Rattle.soundness.proofs.SoundRegions.{goes_on, stops_below}
-use Rattle.soundness.proofs.SoundZeros.{record_parts, records_rest}
+use Rattle.layout.specs.Soundness.{record_ok}
 use Rattle.soundness.proofs.records_ok.Given as goal
 
 abbrev pub invariant-loop-i : goal.invariant-loop-i

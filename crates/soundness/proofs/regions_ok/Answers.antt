@@ -1,5 +1,4 @@
 -- `regions_ok` meets its contract. A conjunction, which stops at the first region that is not sound.
-use borrow.Author.Rules.{rules}
 use Rattle.layout.specs.Soundness.{regions_ok}
 use Rattle.soundness.proofs.SoundRegions.{and_stops, and_then, clash_read}
 use Rattle.soundness.proofs.regions_ok.Goals as goal

@@ -1,13 +1,8 @@
 -- `store_ok` meets its contract. The loop has passed x marks of the store that are sound.
-use Prim.Native.Nat.{◌≤◌, ◌-◌}
-use mathlib.Core.Bool.{true}
-use mathlib.Core.Path.{◌≡◌}
 use borrow.Author.Rules.{rules}
 use Rattle.base.proofs.Ranges.{below_none}
-use Rattle.base.specs.Choice.{all_below}
-use Rattle.paper.specs.Sizes.{most_unknowns}
 use Rattle.layout.specs.Soundness.{store_ok}
-use Rattle.soundness.proofs.SoundRegions.{held_more, held_read, held_ok, passed_all, stops}
+use Rattle.soundness.proofs.SoundRegions.{held_more, held_read, passed_all, stops}
 use Rattle.soundness.proofs.store_ok.Goals as goal
 
 pub loop-x-init : goal.loop-x-init

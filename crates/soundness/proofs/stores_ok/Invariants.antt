@@ -2,12 +2,9 @@
 use Prim.Native.Nat.{◌≤◌, ◌-◌}
 use mathlib.Core.Bool.{true}
 use mathlib.Core.Path.{◌≡◌}
-use borrow.Author.Rules.{rules}
-use Rattle.base.proofs.Ranges.{below_none}
 use Rattle.base.specs.Choice.{all_below}
 use Rattle.paper.specs.Sizes.{most_cabinets}
-use Rattle.layout.specs.Soundness.{store_ok, stores_ok}
-use Rattle.soundness.proofs.SoundRegions.{goes_on, passed_all, stops}
+use Rattle.layout.specs.Soundness.{store_ok}
 use Rattle.soundness.proofs.stores_ok.Given as goal
 
 abbrev pub invariant-loop-c : goal.invariant-loop-c

@@ -1,7 +1,7 @@
 -- `end_of` meets its contract: one law for each way out. It ends because the unknown's number falls at each mark.
 use borrow.Author.Rules.{rules}
 use native.Mathlib.Omega.{arith}
-use Prim.Native.Nat.{ℕ, ◌<◌}
+use Prim.Native.Nat.{◌<◌}
 use Rattle.agreement.proofs.Chains.{no_mark, record_mark, mark_followed, mark_falls}
 use Rattle.agreement.proofs.ends.+end_of.Goals as goal
 

@@ -1,8 +1,4 @@
 -- `end_of` meets its contract: one law for each way out. It ends because the unknown's number falls at each mark.
-use borrow.Author.Rules.{rules}
-use native.Mathlib.Omega.{arith}
-use Prim.Native.Nat.{ℕ, ◌<◌}
-use Rattle.agreement.proofs.Chains.{no_mark, record_mark, mark_followed, mark_falls}
 use Rattle.agreement.proofs.ends.+end_of.Given as goal
 
 abbrev pub decreases-end_of : goal.decreases-end_of

@@ -1,7 +1,5 @@
 -- `ends_of` meets its contract: after x turns the ends of x unknowns stand in their places.
-use Prim.Native.Nat.{◌≤◌, ◌-◌}
 use borrow.Author.Rules.{rules}
-use Rattle.agreement.specs.Ends.{AllEnd}
 use Rattle.agreement.proofs.Chains.{no_end, end_small, one_more_end, all_end}
 use Rattle.agreement.proofs.ends.ends_of.Goals as goal
 

@@ -1,6 +1,5 @@
 -- `bit` meets its contract: a shift is a quotient.
 use mathlib.Core.Path.{refl}
-use borrow.Author.Rules.{rules}
 use Rattle.agreement.specs.Met.{bit_of}
 use Rattle.agreement.proofs.met.bit.Goals as goal
 

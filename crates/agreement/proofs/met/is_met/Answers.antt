@@ -1,5 +1,4 @@
 -- `is_met` meets its contract: the greater unknown's word, the smaller one's bit.
-use borrow.Author.Rules.{rules}
 use Rattle.agreement.proofs.MetTable.{met_greater_x, met_greater_y}
 use Rattle.agreement.proofs.met.is_met.Goals as goal
 

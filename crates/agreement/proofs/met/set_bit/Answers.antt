@@ -1,5 +1,4 @@
 -- `set_bit` meets its contract: where the bit is 0 the sum fits.
-use borrow.Author.Rules.{rules}
 use Rattle.agreement.proofs.Bits.{bit_fits, bit_added}
 use Rattle.agreement.proofs.met.set_bit.Goals as goal
 

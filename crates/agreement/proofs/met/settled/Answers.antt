@@ -1,5 +1,4 @@
 -- `settled` meets its contract: one unknown first, then the table.
-use borrow.Author.Rules.{rules}
 use Rattle.agreement.proofs.MetTable.{settled_same, settled_met}
 use Rattle.agreement.proofs.met.settled.Goals as goal
 

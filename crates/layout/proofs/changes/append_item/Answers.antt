@@ -1,5 +1,4 @@
 -- `append_item` puts the item at the end, then counts one more.
-use borrow.Author.Rules.{rules}
 use Rattle.layout.specs.Changes.{appended}
 use Rattle.layout.proofs.changes.append_item.Goals as goal
 

@@ -1,5 +1,4 @@
 -- `clear` is three fills that meet.
-use borrow.Author.Rules.{rules}
 use Rattle.layout.proofs.ChangeLaws.{cleared_put}
 use Rattle.layout.proofs.changes.clear.Goals as goal
 

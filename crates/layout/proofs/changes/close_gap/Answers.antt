@@ -1,12 +1,8 @@
 -- `close_gap`: i bytes have moved; the measure is what is left of them.
-use Prim.Native.Nat.{◌+◌, ◌≤◌, ◌-◌}
-use lib.ListN.{length, length-set}
-use mathlib.Core.Path.{◌≡◌, refl}
+use lib.ListN.{length-set}
+use mathlib.Core.Path.{refl}
 use native.Mathlib.Omega.{arith}
 use Rattle.base.proofs.Regions.{shift_start, shift_again, gone_made}
-use Rattle.base.specs.Regions.{shifted}
-use Rattle.layout.specs.Offsets.{item_bytes}
-use borrow.Author.Rules.{rules}
 use Rattle.layout.proofs.changes.close_gap.Goals as goal
 
 pub loop-i-init : goal.loop-i-init

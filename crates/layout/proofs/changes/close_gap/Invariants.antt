@@ -1,12 +1,9 @@
 -- `close_gap`: i bytes have moved; the measure is what is left of them.
 use Prim.Native.Nat.{◌+◌, ◌≤◌, ◌-◌}
-use lib.ListN.{length, length-set}
-use mathlib.Core.Path.{◌≡◌, refl}
-use native.Mathlib.Omega.{arith}
-use Rattle.base.proofs.Regions.{shift_start, shift_again, gone_made}
+use lib.ListN.{length}
+use mathlib.Core.Path.{◌≡◌}
 use Rattle.base.specs.Regions.{shifted}
 use Rattle.layout.specs.Offsets.{item_bytes}
-use borrow.Author.Rules.{rules}
 use Rattle.layout.proofs.changes.close_gap.Given as goal
 
 abbrev pub invariant-loop-i : goal.invariant-loop-i

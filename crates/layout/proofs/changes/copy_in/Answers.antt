@@ -1,11 +1,8 @@
 -- `copy_in`: after i turns the first i bytes have been put, and the measure is what is left of n.
-use Prim.Native.Nat.{◌≤◌, ◌-◌}
-use borrow.Author.Rules.{rules}
-use lib.ListN.{length, take, length-set}
-use mathlib.Core.Path.{◌≡◌, refl}
+use lib.ListN.{take, length-set}
+use mathlib.Core.Path.{refl}
 use native.Mathlib.Omega.{arith}
 use Rattle.base.proofs.Regions.{push_none}
-use Rattle.base.specs.Regions.{put}
 use Rattle.layout.proofs.ChangeLaws.{copy_more, copy_all}
 use Rattle.layout.proofs.changes.copy_in.Goals as goal
 

@@ -1,11 +1,8 @@
 -- `fill`: after i turns i times v has been put, and the measure is what is left of n.
-use Prim.Native.Nat.{◌≤◌, ◌-◌}
-use borrow.Author.Rules.{rules}
-use lib.ListN.{length, take, replicate, length-set}
-use mathlib.Core.Path.{◌≡◌, refl}
+use lib.ListN.{replicate, length-set}
+use mathlib.Core.Path.{refl}
 use native.Mathlib.Omega.{arith}
 use Rattle.base.proofs.Regions.{push_none}
-use Rattle.base.specs.Regions.{put}
 use Rattle.layout.proofs.ChangeLaws.{fill_more, fill_all}
 use Rattle.layout.proofs.changes.fill.Goals as goal
 

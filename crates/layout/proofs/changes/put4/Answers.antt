@@ -1,5 +1,4 @@
 -- `put4` is four writes in a row.
-use borrow.Author.Rules.{rules}
 use lib.ListN.{length-set}
 use native.Mathlib.Omega.{arith}
 use Rattle.base.proofs.Regions.{put_sets4}

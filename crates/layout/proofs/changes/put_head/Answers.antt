@@ -1,5 +1,4 @@
 -- `put_head` puts the symbol, then the part count right after it.
-use borrow.Author.Rules.{rules}
 use Rattle.layout.proofs.ChangeLaws.{head_put}
 use Rattle.layout.proofs.changes.put_head.Goals as goal
 

@@ -1,5 +1,4 @@
 -- `put_item` puts the four bytes of each kind of item.
-use borrow.Author.Rules.{rules}
 use Rattle.layout.proofs.ChangeLaws.{statement_put, ask_put, news_put}
 use Rattle.layout.proofs.changes.put_item.Goals as goal
 

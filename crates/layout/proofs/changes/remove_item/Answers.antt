@@ -1,5 +1,4 @@
 -- `remove_item` closes the gap, then counts one less.
-use borrow.Author.Rules.{rules}
 use Rattle.layout.specs.Changes.{removed_at}
 use Rattle.layout.proofs.changes.remove_item.Goals as goal
 

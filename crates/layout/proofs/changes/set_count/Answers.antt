@@ -1,5 +1,4 @@
 -- `set_count` writes the count in two bytes, low first.
-use borrow.Author.Rules.{rules}
 use Rattle.layout.proofs.ChangeLaws.{count_put}
 use Rattle.layout.proofs.changes.set_count.Goals as goal
 

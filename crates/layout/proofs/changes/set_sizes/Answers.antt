@@ -1,5 +1,4 @@
 -- `set_sizes` is four bytes in a row.
-use borrow.Author.Rules.{rules}
 use Rattle.layout.specs.Changes.{with_sizes}
 use Rattle.layout.proofs.changes.set_sizes.Goals as goal
 

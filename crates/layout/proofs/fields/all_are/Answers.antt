@@ -1,6 +1,4 @@
 -- `all_are` meets its contract. The loop has tested i bytes, and `clean` says whether they are v.
-use Prim.Native.Nat.{◌≤◌, ◌-◌}
-use mathlib.Core.Path.{◌≡◌}
 use borrow.Author.Rules.{rules}
 use Rattle.base.proofs.Ranges.{tested_all, tested_next, tested_none}
 use Rattle.layout.specs.Soundness.{all_are}

@@ -1,5 +1,4 @@
 -- `item_at` tells the item by its first byte; each way out is a law.
-use borrow.Author.Rules.{rules}
 use Rattle.layout.proofs.FieldLaws.{item_statement, item_ask, item_news}
 use Rattle.layout.proofs.fields.item_at.Goals as goal
 

@@ -1,12 +1,8 @@
 -- `load_store`: after i turns the first i marks are those of the run, and the measure is what is left of them.
-use Prim.Native.Nat.{◌≤◌, ◌-◌}
-use borrow.Author.Rules.{rules}
-use lib.ListN.{length, drop, length-set}
-use mathlib.Core.List.{◌++◌}
-use mathlib.Core.Path.{◌≡◌, refl}
+use lib.ListN.{length-set}
+use mathlib.Core.Path.{refl}
 use native.Mathlib.Omega.{arith}
 use Rattle.base.proofs.Regions.{pull_none, pull_more, pull_all}
-use Rattle.base.specs.Regions.{get}
 use Rattle.layout.specs.Changes.{store_of}
 use Rattle.layout.proofs.fields.load_store.Goals as goal
 

@@ -1,5 +1,4 @@
 -- `same_head` meets its contract: symbols first, then part counts.
-use borrow.Author.Rules.{rules}
 use Rattle.layout.proofs.ViewedFields.{heads_differ, heads_counted}
 use Rattle.layout.proofs.fields.same_head.Goals as goal
 

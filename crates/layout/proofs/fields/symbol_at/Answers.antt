@@ -1,5 +1,4 @@
 -- `symbol_at` joins the four bytes of a symbol.
-use borrow.Author.Rules.{rules}
 use Rattle.layout.proofs.FieldLaws.{symbol_read}
 use Rattle.layout.proofs.fields.symbol_at.Goals as goal
 

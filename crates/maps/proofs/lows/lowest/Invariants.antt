@@ -1,12 +1,10 @@
 -- `lowest` meets its contract: none below y agrees, so the lowest is the first from y on.
 use Prim.Native.Nat.{◌≤◌, ◌-◌}
 use mathlib.Core.Path.{◌≡◌}
-use borrow.Author.Rules.{rules}
 use Rattle.base.specs.Choice.{first_of}
 use Rattle.paper.specs.Ends.{agree}
 use Rattle.paper.specs.Maps.{lowest_of}
 use Rattle.agreement.specs.Ends.{ends_of}
-use Rattle.maps.proofs.Lowest.{lowest_from_0, lowest_found, lowest_later, lowest_itself}
 use Rattle.maps.proofs.lows.lowest.Given as goal
 
 abbrev pub invariant-loop-y : goal.invariant-loop-y

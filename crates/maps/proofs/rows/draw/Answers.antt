@@ -1,7 +1,5 @@
 -- `draw` meets its contract: after x turns x rows are drawn and all else is 0.
-use Prim.Native.Nat.{◌≤◌, ◌-◌}
 use borrow.Author.Rules.{rules}
-use Rattle.maps.specs.Rows.{Drawn}
 use Rattle.maps.proofs.Drawing.{none_drawn, all_drawn}
 use Rattle.maps.proofs.rows.draw.Goals as goal
 

@@ -1,13 +1,9 @@
 -- `write_lows` meets its contract: after j turns the lowest same items of j parts have been put.
 use Prim.Native.Nat.{◌≤◌, ◌-◌}
-use mathlib.Core.Path.{◌≡◌, refl}
-use native.Mathlib.Omega.{arith}
-use borrow.Author.Rules.{rules}
-use lib.ListN.{length, take, length-set}
+use mathlib.Core.Path.{◌≡◌}
+use lib.ListN.{length, take}
 use Rattle.base.specs.Regions.{put}
 use Rattle.maps.specs.Rows.{unknowns_of, lows_of}
-use Rattle.agreement.proofs.Ranges.{part_few}
-use Rattle.maps.proofs.Lowest.{no_lows, lows_more, lows_all}
 use Rattle.maps.proofs.rows.write_lows.Given as goal
 
 abbrev pub invariant-loop-j : goal.invariant-loop-j

@@ -1,13 +1,10 @@
 -- `take_all`: after i turns i places are done, and what the list does from there on the bytes as they are is what it does in all. The
 -- bytes stay ready for a step. The measure is what is left of the list.
-use borrow.Author.Rules.{rules}
 use Prim.Native.Nat.{◌≤◌, ◌-◌}
-use mathlib.Core.Path.{◌≡◌, refl}
-use native.Mathlib.Omega.{arith}
+use mathlib.Core.Path.{◌≡◌}
 use lib.ListN.{length, drop}
 use Rattle.rules.specs.Bytes.{all_taken}
-use Rattle.rules.proofs.Bridge.{Ready, ready_sound}
-use Rattle.rules.proofs.CallLaws.{sound_ready, ready_next, list_over, list_more, list_ends}
+use Rattle.rules.proofs.Bridge.{Ready}
 use Rattle.rules.proofs.calls.take_all.Given as goal
 
 abbrev pub invariant-loop-i : goal.invariant-loop-i

@@ -1,6 +1,5 @@
 -- `full` meets its contract, with the count as it is read.
 use Rattle.rules.proofs.TakeLaws.{full_read}
-use borrow.Author.Rules.{rules}
 use Rattle.rules.proofs.taking.full.Goals as goal
 
 pub returns : goal.returns

@@ -1,6 +1,5 @@
 -- `products` meets its contract: a decomposition has as many as the left record has parts; every other number is known.
 use Rattle.rules.proofs.CarryLaws.{above_unknowns, products_decompose}
-use borrow.Author.Rules.{rules}
 use Rattle.rules.proofs.taking.products.Goals as goal
 
 pub overflow_sub-a : goal.overflow_sub-a

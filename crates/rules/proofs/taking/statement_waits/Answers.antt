@@ -1,6 +1,5 @@
 -- `statement_waits` meets its contract: the choice waits, or is another.
 use Rattle.rules.proofs.TakeLaws.{waits_yes, waits_no}
-use borrow.Author.Rules.{rules}
 use Rattle.rules.proofs.taking.statement_waits.Goals as goal
 
 pub returns-in-Waits : goal.returns-in-Waits

@@ -1,6 +1,5 @@
 -- `take_news` meets its contract: a news has no products, so that there is room.
 use Rattle.rules.proofs.TakeLaws.{news_arrived}
-use borrow.Author.Rules.{rules}
 use Rattle.rules.proofs.taking.take_news.Goals as goal
 
 pub returns : goal.returns

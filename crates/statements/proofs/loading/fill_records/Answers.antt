@@ -1,7 +1,6 @@
 -- `fill_records` meets its contract: one law of filling for each way out, and for the turns of its loop.
-use Rattle.statements.proofs.Filled.{RecordsTo, no_record_yet, records_long, records_filled, record_never_refused, few_parts, small_symbol, record_filled}
+use Rattle.statements.proofs.Filled.{no_record_yet, records_long, records_filled, record_never_refused, few_parts, small_symbol, record_filled}
 use borrow.Author.Rules.{rules}
-use Prim.Native.Nat.{◌-◌}
 use Rattle.statements.proofs.loading.fill_records.Goals as goal
 
 pub loop-i-init : goal.loop-i-init

@@ -1,7 +1,6 @@
 -- `fill_statements` meets its contract: one law of filling for each way out, and for the turns of its loop.
-use Rattle.statements.proofs.Filled.{StatementsTo, no_statement_yet, statements_long, statements_filled, statement_never_refused, room_for_one, statement_filled}
+use Rattle.statements.proofs.Filled.{no_statement_yet, statements_long, statements_filled, statement_never_refused, room_for_one, statement_filled}
 use borrow.Author.Rules.{rules}
-use Prim.Native.Nat.{◌-◌}
 use Rattle.statements.proofs.loading.fill_statements.Goals as goal
 
 pub loop-i-init : goal.loop-i-init

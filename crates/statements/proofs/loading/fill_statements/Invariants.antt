@@ -1,6 +1,5 @@
 -- `fill_statements` meets its contract: one law of filling for each way out, and for the turns of its loop.
-use Rattle.statements.proofs.Filled.{StatementsTo, no_statement_yet, statements_long, statements_filled, statement_never_refused, room_for_one, statement_filled}
-use borrow.Author.Rules.{rules}
+use Rattle.statements.proofs.Filled.{StatementsTo}
 use Prim.Native.Nat.{◌-◌}
 use Rattle.statements.proofs.loading.fill_statements.Given as goal
 

@@ -1,10 +1,6 @@
 -- `all_statements` meets its contract. The loop has passed p statements; another item fails the whole.
-use mathlib.Core.Bool.{true}
-use mathlib.Core.Path.{◌≡◌}
-use Rattle.statements.specs.Writes.{all_statements}
 use Rattle.statements.proofs.WritePieces.{statements_none, statements_fail, statements_more, statements_all}
 use borrow.Author.Rules.{rules}
-use Prim.Native.Nat.{◌-◌, ◌≤◌}
 use Rattle.statements.proofs.writing.all_statements.Goals as goal
 
 pub loop-p-init : goal.loop-p-init

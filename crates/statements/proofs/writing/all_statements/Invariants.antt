@@ -2,8 +2,6 @@
 use mathlib.Core.Bool.{true}
 use mathlib.Core.Path.{◌≡◌}
 use Rattle.statements.specs.Writes.{all_statements}
-use Rattle.statements.proofs.WritePieces.{statements_none, statements_fail, statements_more, statements_all}
-use borrow.Author.Rules.{rules}
 use Prim.Native.Nat.{◌-◌, ◌≤◌}
 use Rattle.statements.proofs.writing.all_statements.Given as goal
 

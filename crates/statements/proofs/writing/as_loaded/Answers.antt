@@ -1,6 +1,5 @@
 -- `as_loaded` meets its contract: one law of the test for each way out.
 use Rattle.statements.proofs.WritePieces.{clashed_fails, count_fails, marks_fail, memos_fail, loaded_tested}
-use borrow.Author.Rules.{rules}
 use Rattle.statements.proofs.writing.as_loaded.Goals as goal
 
 pub returns-then-clash_byte-ne0 : goal.returns-then-clash_byte-ne0

@@ -1,10 +1,8 @@
 -- `write_parts` meets its contract: one law of the parts for the way out, and for the turns of its loop.
 use Rattle.paper.specs.Numbers.{number_bytes}
-use Rattle.layout.specs.Fields.{part_of}
-use Rattle.layout.proofs.Putting.{EachTo, none_put, each_long, all_put, one_fits, one_put}
+use Rattle.layout.proofs.Putting.{none_put, each_long, all_put, one_fits, one_put}
 use Rattle.statements.proofs.WritePieces.{byte_number}
 use borrow.Author.Rules.{rules}
-use Prim.Native.Nat.{◌-◌}
 use Rattle.statements.proofs.writing.write_parts.Goals as goal
 
 pub loop-k-init : goal.loop-k-init

@@ -1,9 +1,7 @@
 -- `write_records` meets its contract: one law of the records for the way out, and for the turns of its loop.
 use Rattle.paper.specs.Files.{record_bytes}
 use Rattle.layout.specs.Fields.{record_of}
-use Rattle.layout.proofs.Putting.{EachTo, none_put, each_long, all_put, one_fits, one_put}
-use Rattle.statements.proofs.WritePieces.{record_parts_few}
-use borrow.Author.Rules.{rules}
+use Rattle.layout.proofs.Putting.{EachTo}
 use Prim.Native.Nat.{◌-◌}
 use Rattle.statements.proofs.writing.write_records.Given as goal
 

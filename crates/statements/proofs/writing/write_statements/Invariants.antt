@@ -1,8 +1,7 @@
 -- `write_statements` meets its contract: one law of the statements for the way out, and for the turns of its loop.
 use Rattle.paper.specs.Files.{statement_bytes}
-use Rattle.layout.proofs.Putting.{EachTo, none_put, each_long, all_put, one_fits, one_put}
+use Rattle.layout.proofs.Putting.{EachTo}
 use Rattle.statements.specs.Writes.{statement_at}
-use borrow.Author.Rules.{rules}
 use Prim.Native.Nat.{◌-◌}
 use Rattle.statements.proofs.writing.write_statements.Given as goal
 
