@@ -18,7 +18,7 @@ use met::{Met, meet, settled};
 use paper::sizes::MOST_UNKNOWNS;
 
 // The answer, and the table after.
-#[derive(Drop)]
+#[derive(Clone, Copy)]
 struct Agreed {
     met: Met,
     same: bool,

@@ -8,7 +8,7 @@ ghost use Rattle.agreement.specs.Met.{bit_of, met_of, settled_in};
 use paper::sizes;
 
 // For each unknown a word, with a bit for each unknown that is not greater.
-#[derive(Drop)]
+#[derive(Clone, Copy)]
 pub struct Met {
     pub words: [u32; sizes::MOST_UNKNOWNS],
 }

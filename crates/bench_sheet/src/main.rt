@@ -1,6 +1,8 @@
 // Document 01's bench sheet, as calls.
 #![tactic(auto)]
 
-fn main() {
-    sheets::run_sheet();
+use std::io;
+
+fn main(rt: HostRuntime) -> io::Result<()> {
+    sheets::run_sheet(&rt)
 }

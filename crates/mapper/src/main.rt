@@ -1,6 +1,9 @@
 // The map program: a statement file on standard input; its map, `clash` or the refusal on standard output.
 #![tactic(auto)]
 
-fn main() {
-    mapping::print_input();
+use std::io;
+
+fn main(rt: HostRuntime) -> io::Result<()> {
+    mapping::print_input(&rt)?;
+    Ok(())
 }

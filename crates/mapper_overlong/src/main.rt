@@ -1,6 +1,9 @@
 // The map program once more, run on more bytes than it has to read.
 #![tactic(auto)]
 
-fn main() {
-    mapping::print_input();
+use std::io;
+
+fn main(rt: HostRuntime) -> io::Result<()> {
+    mapping::print_input(&rt)?;
+    Ok(())
 }

@@ -1,4 +1,5 @@
 -- Laws of the map program: one for each way out of `print`, and what its callees ask.
+use Rattle.std.proofs.Common.{Result, Ok, Err, IfOk}
 use mathlib.Core.Path.{◌≡◌, refl, sym, ap, subst, ◌∙◌}
 use mathlib.Core.Logic.{inl, inr}
 use mathlib.Core.Bool.{true}
@@ -177,3 +178,9 @@ text_within bs d e n w =
 
 pub text_of_input : (file : List ℕ) (k n : ℕ) → k ≤ longest_file + 4 → n ≡ length (printed (take k file)) → TextOfInput n
 text_of_input file k n h e = record { read = take k file; most = omega (arith, length-take k file); text = e }
+
+-- the same of a reply that may be an error instead
+pub text_of_reply : {E : Type 0} (r : Result ℕ E) (file : List ℕ) (k : ℕ) → k ≤ longest_file + 4 → IfOk r (λ n. n ≡ length (printed (take k file)))
+    → IfOk r TextOfInput
+text_of_reply (Ok n) file k h e = text_of_input file k n h e
+text_of_reply (Err x) file k h e = e

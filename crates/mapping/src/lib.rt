@@ -1,7 +1,9 @@
 // What the map program prints of a statement file: its map, `clash` or the refusal.
 #![tactic(auto)]
 
-ghost use Rattle.std.specs.Prelude.{◌≤◌, length, ◌≡◌, true};
+pub mod input; // input.rt: a reader's bytes into a buffer
+
+ghost use Rattle.std.specs.Prelude.{◌≤◌, length, ◌≡◌, true, IfOk};
 ghost use Rattle.base.specs.Puts.{PutFrom};
 ghost use Rattle.paper.specs.Programs.{printed_run, printed};
 ghost use Rattle.layout.specs.Offsets.{run_bytes};
@@ -11,9 +13,10 @@ ghost use Rattle.promises.specs.FromFiles.{AtEnd};
 ghost use Rattle.mapping.specs.Runs.{Ran, TextOfInput};
 ghost use Rattle.printing.specs.Prints.{most_printed};
 
-use libc::STDOUT_FILENO;
 use paper::sizes;
 use statements::LoadReply;
+use std::io;
+use std::io::{Input, Print};
 
 // The last number of the longest file can start at 835, and five bytes may have to be seen to refuse it.
 const INPUT_BYTES: usize = sizes::LONGEST_FILE - 1 + sizes::MOST_GROUPS;
@@ -62,21 +65,23 @@ fn print(file: &[u8], out: &mut [u8]) -> usize
     print_run(&run, out)
 }
 
-// Prints what is printed of a file; gives the text's length.
-pub fn print_file(file: &[u8]) -> usize
-    ensures { result ≡ length (printed file.now) }
+// Prints what is printed of a file; gives the text's length. An error of the output is handed on: some of the text may be written.
+pub fn print_file(out: &impl Print, file: &[u8]) -> io::Result<usize>
+    ensures { IfOk result (λ n. n ≡ length (printed file.now)) }
 {
-    let mut out = [0u8; TEXT_BYTES];
-    let end = print(file, &mut out);
-    io::write_all(STDOUT_FILENO, &out[0..end]);
-    end
+    let mut text = [0u8; TEXT_BYTES];
+    let end = print(file, &mut text);
+    out.write_all(&text[0..end])?;
+    Ok(end)
 }
 
-// The map program: prints what is printed of the file on standard input; gives the text's length.
-pub fn print_input() -> usize
-    ensures { TextOfInput result }
+// The map program: prints what is printed of the file on the input; gives the text's length. An error of the input or the output is
+// handed on.
+pub fn print_input(rt: &(impl Input + Print)) -> io::Result<usize>
+    ensures { IfOk result TextOfInput }
 {
     let mut file = [0u8; INPUT_BYTES];
-    let n = io::read_full(0, &mut file);
-    print_file(&file[0..n])
+    let mut reader = rt.reader();
+    let n = input::read_full(&mut reader, &mut file)?;
+    print_file(rt, &file[0..n])
 }

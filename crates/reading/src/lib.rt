@@ -24,14 +24,14 @@ const PARTS_BELOW: u64 = sizes::MOST_PARTS as u64 + 1;
 const STATEMENTS_BELOW: u64 = sizes::MOST_STATEMENTS as u64 + 1;
 
 // Where a read ended: the next position; or a refusal and the position where the faulty number starts.
-#[derive(Drop)]
+#[derive(Clone, Copy)]
 pub enum End {
     At(usize),
     Refused(usize, usize),
 }
 
 // S, V and R, if the read was not refused.
-#[derive(Drop)]
+#[derive(Clone, Copy)]
 struct Sizes {
     cabinets: usize,
     unknowns: usize,
@@ -40,7 +40,7 @@ struct Sizes {
 }
 
 // A record, if the read was not refused: its symbol, its part count, and its parts, 0 beyond the count.
-#[derive(Drop)]
+#[derive(Clone, Copy)]
 pub struct RecordRead {
     pub symbol: u64,
     pub count: usize,
@@ -49,7 +49,7 @@ pub struct RecordRead {
 }
 
 // A statement, if the read was not refused.
-#[derive(Drop)]
+#[derive(Clone, Copy)]
 pub struct StatementRead {
     pub cabinet: u8,
     pub left: u8,
@@ -58,7 +58,7 @@ pub struct StatementRead {
 }
 
 // S, V, R and E, where the table of records starts, and where the list of statements starts, if the file was not refused.
-#[derive(Drop)]
+#[derive(Clone, Copy)]
 pub struct Checked {
     pub cabinets: usize,
     pub unknowns: usize,
@@ -71,7 +71,7 @@ pub struct Checked {
 
 // A part of a file: where it starts, and its length.
 #[repr(C)]
-#[derive(Drop)]
+#[derive(Clone, Copy)]
 pub struct Span {
     pub start: usize,
     pub size: usize,

@@ -28,7 +28,7 @@ pub fn step(run: &mut [u8], place: usize) -> StepReply
 
 // 0 and how many places there were, or the first refusal's number and how many places were done before it.
 #[repr(C)]
-#[derive(Drop)]
+#[derive(Clone, Copy)]
 pub struct ListReply {
     pub number: usize,
     pub done: usize,

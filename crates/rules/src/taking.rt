@@ -24,7 +24,7 @@ const NO_OWNER: usize = layout::NOTHING as usize;
 
 // 0 and the rule's number, or a refusal's number and 0.
 #[repr(C)]
-#[derive(Drop)]
+#[derive(Clone, Copy)]
 pub struct StepReply {
     pub number: usize,
     pub rule: usize,
@@ -56,7 +56,7 @@ fn full(run: &[u8], n: usize) -> bool
 }
 
 // A local rule's number, and the store that it gives back.
-#[derive(Drop)]
+#[derive(Clone, Copy)]
 struct Done {
     rule: usize,
     store: Store,

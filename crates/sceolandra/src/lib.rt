@@ -15,46 +15,41 @@ use statements::{LoadReply, WriteReply};
 
 // The reply to a map call.
 #[repr(C)]
-#[derive(Drop)]
+#[derive(Clone, Copy)]
 pub struct MapReply {
     pub number: usize,
 }
 
 // The file into the run: number and the fault's position.
-#[unsafe(no_mangle)]
-pub extern "C" fn sc_load(file: &[u8], run: &mut [u8]) -> LoadReply
+pub fn sc_load(file: &[u8], run: &mut [u8]) -> LoadReply
     ensures { answer result.number result.position run.new ≡ load_bytes file.now run.old }
 {
     statements::load(file, run)
 }
 
 // Where statement n of the file stands: start and size, both 0 if the file is refused or has no statement n.
-#[unsafe(no_mangle)]
-pub extern "C" fn sc_statement(file: &[u8], n: usize) -> Span
+pub fn sc_statement(file: &[u8], n: usize) -> Span
     ensures { span_of result ≡ statement_span file.now n }
 {
     reading::find_statement(file, n)
 }
 
 // One step, at a place: number and the rule.
-#[unsafe(no_mangle)]
-pub extern "C" fn sc_step(run: &mut [u8], place: usize) -> StepReply
+pub fn sc_step(run: &mut [u8], place: usize) -> StepReply
     ensures { out result.number result.rule run.new ≡ step_bytes run.old place }
 {
     rules::step(run, place)
 }
 
 // A list of steps, at places: number and how many were done.
-#[unsafe(no_mangle)]
-pub extern "C" fn sc_steps(run: &mut [u8], places: &[u32]) -> ListReply
+pub fn sc_steps(run: &mut [u8], places: &[u32]) -> ListReply
     ensures { out result.number result.done run.new ≡ steps_bytes run.old places.now }
 {
     rules::steps(run, places)
 }
 
 // The map of a run that has come to its end unclashed: number.
-#[unsafe(no_mangle)]
-pub extern "C" fn sc_map(run: &[u8], map: &mut [u8]) -> MapReply
+pub fn sc_map(run: &[u8], map: &mut [u8]) -> MapReply
     ensures { mapped result.number map.new ≡ map_bytes_of run.now map.old }
 {
     MapReply {
@@ -63,8 +58,7 @@ pub extern "C" fn sc_map(run: &[u8], map: &mut [u8]) -> MapReply
 }
 
 // The run, if it is as loaded, back into its file: number and the file's length.
-#[unsafe(no_mangle)]
-pub extern "C" fn sc_write(run: &[u8], file: &mut [u8]) -> WriteReply
+pub fn sc_write(run: &[u8], file: &mut [u8]) -> WriteReply
     ensures { answer result.number result.length file.new ≡ written_bytes run.now file.old }
 {
     statements::write(run, file)

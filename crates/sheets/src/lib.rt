@@ -7,7 +7,9 @@ mod pieces; // pieces.rt: a sheet's bytes, and the hash
 ghost use Rattle.std.specs.Prelude.{◌≤◌, ◌<◌, length, ◌≡◌};
 ghost use Rattle.sheets.specs.Spaces.{run_space, map_space, file_space, sheet_space, list_space};
 
-use libc::STDOUT_FILENO;
+use mapping::input;
+use std::io;
+use std::io::{Input, Print};
 
 // More than the longest sheet has.
 const SHEET_SPACE: usize = 131072;
@@ -23,7 +25,7 @@ const FILE_SPACE: usize = paper::sizes::LONGEST_FILE + 1;
 const LIST_SPACE: usize = 16384;
 
 // A printed line.
-#[derive(Drop)]
+#[derive(Clone, Copy)]
 struct Line {
     number: u64,
     value: u64,
@@ -246,67 +248,74 @@ fn sweep(bytes: &[u8], run: &mut [u8]) -> Line
 }
 
 // Print: a file. What the map program prints of it comes before the line.
-fn print(bytes: &[u8]) -> Line {
-    mapping::print_file(bytes);
-    Line {
+fn print(out: &impl Print, bytes: &[u8]) -> io::Result<Line> {
+    mapping::print_file(out, bytes)?;
+    Ok(Line {
         number: bytes.len() as u64,
         value: 0,
         hash: pieces::hash(bytes),
-    }
+    })
 }
 
 // Makes one call, by its kind; for a kind that there is not, the run's hash alone.
-fn make(kind: u8, bytes: &[u8], run: &mut [u8], map: &mut [u8], file: &mut [u8]) -> Line
+fn make(
+    out: &impl Print,
+    kind: u8,
+    bytes: &[u8],
+    run: &mut [u8],
+    map: &mut [u8],
+    file: &mut [u8],
+) -> io::Result<Line>
     requires { (length run.old ≡ run_space) × (length map.old ≡ map_space) × (length file.old ≡ file_space) }
 {
     match kind {
-        1 => load(bytes, run),
-        2 => statement(bytes),
-        3 => step(bytes, run),
-        4 => steps(bytes, run),
-        5 => make_map(bytes, run, map),
-        6 => write(bytes, run, file),
-        7 => poke(bytes, run),
-        8 => fill(bytes, run, map, file),
-        9 => damage(bytes, run, file),
-        10 => sweep(bytes, run),
-        11 => print(bytes),
-        _ => hashed(run),
+        1 => Ok(load(bytes, run)),
+        2 => Ok(statement(bytes)),
+        3 => Ok(step(bytes, run)),
+        4 => Ok(steps(bytes, run)),
+        5 => Ok(make_map(bytes, run, map)),
+        6 => Ok(write(bytes, run, file)),
+        7 => Ok(poke(bytes, run)),
+        8 => Ok(fill(bytes, run, map, file)),
+        9 => Ok(damage(bytes, run, file)),
+        10 => Ok(sweep(bytes, run)),
+        11 => print(out, bytes),
+        _ => Ok(hashed(run)),
     }
 }
 
-// One number, and a space or the line's end after it.
-fn print_number(n: u64, after: u8) {
-    io::print_decimal(STDOUT_FILENO, n);
-    let end = [after];
-    io::write_all(STDOUT_FILENO, &end);
-}
-
-fn print_line(line: Line) {
-    print_number(line.number, b' ');
-    print_number(line.value, b' ');
-    print_number(line.hash, b'\n');
+fn print_line(out: &impl Print, line: Line) -> io::Result<()> {
+    println!(out; "{} {} {}", line.number, line.value, line.hash)
 }
 
 // Makes every call of a sheet. A call is its kind, the count of its bytes (two bytes, low first) and its bytes.
-fn make_calls(sheet: &[u8], run: &mut [u8], map: &mut [u8], file: &mut [u8])
+fn make_calls(
+    out: &impl Print,
+    sheet: &[u8],
+    run: &mut [u8],
+    map: &mut [u8],
+    file: &mut [u8],
+) -> io::Result<()>
     requires { (length sheet.now ≤ sheet_space) × (length run.old ≡ run_space) × (length map.old ≡ map_space) × (length file.old ≡ file_space) }
 {
     let mut at = 0;
     while at < sheet.len() {
         let n = pieces::two(sheet, at + 1);
         let bytes = pieces::piece(sheet, at + 3, n);
-        print_line(make(sheet[at], bytes, run, map, file));
+        let line = make(out, sheet[at], bytes, run, map, file)?;
+        print_line(out, line)?;
         at += n + 3;
     }
+    Ok(())
 }
 
-// Reads a sheet from standard input and makes its calls.
-pub fn run_sheet() {
+// Reads a sheet from the input and makes its calls. An error of the input or the output is handed on.
+pub fn run_sheet(rt: &(impl Input + Print)) -> io::Result<()> {
     let mut sheet = [0u8; SHEET_SPACE];
-    let n = io::read_full(0, &mut sheet);
+    let mut reader = rt.reader();
+    let n = input::read_full(&mut reader, &mut sheet)?;
     let mut run = [0u8; RUN_SPACE];
     let mut map = [0u8; MAP_SPACE];
     let mut file = [0u8; FILE_SPACE];
-    make_calls(&sheet[0..n], &mut run, &mut map, &mut file);
+    make_calls(rt, &sheet[0..n], &mut run, &mut map, &mut file)
 }

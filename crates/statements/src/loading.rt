@@ -14,7 +14,7 @@ use reading::{End, check_file, read_record, read_statement};
 
 // The reply to a load: 0 for done, else the refusal; and the position of the fault, else 0.
 #[repr(C)]
-#[derive(Drop)]
+#[derive(Clone, Copy)]
 pub struct LoadReply {
     pub number: usize,
     pub position: usize,

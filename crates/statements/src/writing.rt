@@ -18,7 +18,7 @@ const STATEMENT: u8 = 1;
 
 // The reply to a write: 0 for done, else the refusal; and the file's length, else 0.
 #[repr(C)]
-#[derive(Drop)]
+#[derive(Clone, Copy)]
 pub struct WriteReply {
     pub number: usize,
     pub length: usize,

@@ -1,6 +1,8 @@
 // Files, runs, maps and printed texts, as calls: what document 01 does not list.
 #![tactic(auto)]
 
-fn main() {
-    sheets::run_sheet();
+use std::io;
+
+fn main(rt: HostRuntime) -> io::Result<()> {
+    sheets::run_sheet(&rt)
 }

@@ -1,0 +1,13 @@
+-- `print_run` meets its contract: one law of a run at its end for each way out.
+use Rattle.mapping.proofs.PrintLaws.{clash_printed, unknowns_few, items_printed}
+use borrow.Author.Rules.{rules}
+use Rattle.mapping.proofs.print_run.Goals as goal
+
+pub returns-then-clash_byte-ne0 : goal.returns-then-clash_byte-ne0
+returns-then-clash_byte-ne0 c = search clash_printed
+
+pub print_map-requires : goal.print_map-requires
+print_map-requires c = (search rules, search unknowns_few, search rules)
+
+pub returns : goal.returns
+returns c = search (items_printed, c.shared_slice_known-1.given)
