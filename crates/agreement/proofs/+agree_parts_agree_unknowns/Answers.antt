@@ -17,7 +17,7 @@ pub agree_parts-settled-requires : goal.agree_parts-settled-requires
 agree_parts-settled-requires t c = (search part_few, search part_few)
 
 pub agree_parts-agree_unknowns-answer-requires : goal.agree_parts-agree_unknowns-answer-requires
-agree_parts-agree_unknowns-answer-requires t c = (omega arith, (search rules, search rules, search part_unknown, search part_unknown, not_settled _ _ _ _ c.settled.ensures (ap not c.if-not-settled.true)))
+agree_parts-agree_unknowns-answer-requires t c = (omega arith, (search rules, search rules, search part_unknown, search part_unknown, search not_settled))
 
 pub agree_parts-returns-then-not-same : goal.agree_parts-returns-then-not-same
 agree_parts-returns-then-not-same t c = search part_differs

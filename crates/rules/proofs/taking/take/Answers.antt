@@ -9,9 +9,7 @@ pub returns-then-clash_byte-ne0 : goal.returns-then-clash_byte-ne0
 returns-then-clash_byte-ne0 c = search taken_clashed
 
 pub returns-then-place-count : goal.returns-then-place-count
-returns-then-place-count c =
-    taken_no_place _ _ _ c.clash_byte.ensures c.if-clash_byte-ne0.false _ c.count.ensures
-    c.if-place-count.true
+returns-then-place-count c = search taken_no_place
 
 pub item_at-j-requires : goal.item_at-j-requires
 item_at-j-requires c = (search rules, sound_place _ _ c.requires.1 (omega arith))
