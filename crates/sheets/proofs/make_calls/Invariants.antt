@@ -3,7 +3,6 @@ use mathlib.Core.Path.{◌≡◌}
 use Prim.Native.Nat.{◌≤◌, ◌-◌}
 use lib.ListN.{length}
 use Rattle.sheets.specs.Spaces.{run_space, map_space, file_space, sheet_space}
-use borrow.Author.Rules.{rules}
 use Rattle.sheets.proofs.make_calls.Given as goal
 
 abbrev pub invariant-loop-at : goal.invariant-loop-at

@@ -3,7 +3,6 @@ use mathlib.Core.Path.{◌≡◌}
 use Prim.Native.Nat.{◌≤◌, ◌+◌, ◌-◌, ◌*◌}
 use lib.ListN.{length}
 use Rattle.sheets.specs.Spaces.{list_space}
-use borrow.Author.Rules.{rules}
 use Rattle.sheets.proofs.read_places.Given as goal
 
 abbrev pub invariant-loop-i : goal.invariant-loop-i

@@ -3,7 +3,6 @@ use mathlib.Core.Path.{◌≡◌}
 use Prim.Native.Nat.{◌≤◌, ◌-◌}
 use lib.ListN.{length}
 use Rattle.sheets.specs.Spaces.{run_space}
-use borrow.Author.Rules.{rules}
 use Rattle.sheets.proofs.sweep.Given as goal
 
 abbrev pub invariant-loop-v : goal.invariant-loop-v

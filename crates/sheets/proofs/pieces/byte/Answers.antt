@@ -1,6 +1,5 @@
 -- `byte` meets its contract: beyond the end there is 0.
 use Rattle.sheets.proofs.PieceLaws.{beyond}
-use borrow.Author.Rules.{rules}
 use Rattle.sheets.proofs.pieces.byte.Goals as goal
 
 pub returns : goal.returns

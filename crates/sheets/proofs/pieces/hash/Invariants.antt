@@ -1,10 +1,8 @@
 -- `hash` meets its contract: i bytes are in the hash, and the measure is what is left of them.
 use Prim.Native.Nat.{◌≤◌, ◌-◌}
-use mathlib.Core.Path.{◌≡◌, refl}
+use mathlib.Core.Path.{◌≡◌}
 use lib.ListN.{length, drop}
 use Rattle.sheets.specs.Hashes.{hash_from}
-use Rattle.sheets.proofs.PieceLaws.{one_hashed, all_hashed}
-use borrow.Author.Rules.{rules}
 use Rattle.sheets.proofs.pieces.hash.Given as goal
 
 abbrev pub invariant-loop-i : goal.invariant-loop-i
