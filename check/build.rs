@@ -1,4 +1,4 @@
-//! Links the static library, which `rt staticlib sceolandra` writes.
+//! Links the static library, which `tools/build library` writes.
 
 fn main() {
     let root = std::env::var("CARGO_MANIFEST_DIR").unwrap();

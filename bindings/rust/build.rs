@@ -1,4 +1,4 @@
-//! Links the static library, which `rt staticlib sceolandra` writes; SCEOLANDRA_LIB names another folder that has it.
+//! Links the static library, which `tools/build library` writes; SCEOLANDRA_LIB names another folder that has it.
 
 use std::path::PathBuf;
 use std::process::exit;
@@ -14,7 +14,7 @@ fn main() {
     let archive = folder.join("libsceolandra.a");
     println!("cargo:rerun-if-changed={}", archive.display());
     if !archive.is_file() {
-        eprintln!("{} is missing: run `rt staticlib sceolandra` first", archive.display());
+        eprintln!("{} is missing: run `tools/build library` first", archive.display());
         exit(1);
     }
     println!("cargo:rustc-link-search=native={}", folder.display());
