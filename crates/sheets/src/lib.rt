@@ -284,8 +284,16 @@ fn make(
     }
 }
 
+// One number, and a space or the line's end after it.
+fn print_number(out: &impl Print, n: u64, after: u8) -> io::Result<()> {
+    print!(out; "{n}")?;
+    out.write_all(&[after])
+}
+
 fn print_line(out: &impl Print, line: Line) -> io::Result<()> {
-    println!(out; "{} {} {}", line.number, line.value, line.hash)
+    print_number(out, line.number, b' ')?;
+    print_number(out, line.value, b' ')?;
+    print_number(out, line.hash, b'\n')
 }
 
 // Makes every call of a sheet. A call is its kind, the count of its bytes (two bytes, low first) and its bytes.
