@@ -1,5 +1,5 @@
-/* The six calls of Sceolandra, for C and C++ on x86-64. Link target/staticlib/libsceolandra.a, which
- * `tools/build library` writes.
+/* The six calls of Sceolandra, for C and C++ on x86-64, of the level x86-64-v2 or above. Link
+ * target/staticlib/libsceolandra.a, which `tools/build library` writes.
  *
  * Words and numbers are document 01's. What a call replies and every byte that it leaves follow from what it is given,
  * for every input:
