@@ -38,3 +38,8 @@ pub const RUN_BYTES: usize = PENDING + sizes::ROOM * ITEM_BYTES;
 pub const ROW_BYTES: usize = 2 + SYMBOL_BYTES + 1 + sizes::MOST_PARTS;
 
 pub const MAP_BYTES: usize = sizes::MOST_UNKNOWNS * ROW_BYTES;
+
+// A run's bytes, and a map's.
+pub type Run = [u8; RUN_BYTES];
+
+pub type Map = [u8; MAP_BYTES];

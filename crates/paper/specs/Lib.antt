@@ -6,6 +6,7 @@ pub mod Runs
 pub mod Rules
 pub mod Steps
 pub mod Files
+pub mod Found
 pub mod Faults
 pub mod Reached
 pub mod Locality

@@ -1,5 +1,7 @@
 -- The refusal numbers of document 01, "Refusal numbers and their order". 0 means done.
 use Rattle.std.specs.Prelude.{ℕ}
+use Rattle.paper.specs.declared.refused.Refusal.{Refusal}
+use Rattle.paper.specs.declared.refused.Refusal.TheVariants.{FileEnds, BadNumber, BadCabinets, BadUnknowns, BadRecords, TooManyParts, PartNotUnknown, TooManyStatements, NoSuchCabinet, NoSuchEntry, BytesLeft, WrongLength, NoSuchPlace, StillWaits, HasClashed, ItemsPending, NotSound, NoRoom, NotAsLoaded}
 
 -- 1: "file ends in or before a number"
 abbrev pub file_ends : ℕ
@@ -71,3 +73,25 @@ no_room = 18
 -- 19: "write asked of a sound run that isn't as loaded"
 abbrev pub not_as_loaded : ℕ
 not_as_loaded = 19
+
+-- the number of each refusal that the code names
+abbrev pub refusal_number : Refusal → ℕ
+refusal_number FileEnds = file_ends
+refusal_number BadNumber = bad_number
+refusal_number BadCabinets = bad_cabinets
+refusal_number BadUnknowns = bad_unknowns
+refusal_number BadRecords = bad_records
+refusal_number TooManyParts = too_many_parts
+refusal_number PartNotUnknown = part_not_unknown
+refusal_number TooManyStatements = too_many_statements
+refusal_number NoSuchCabinet = no_such_cabinet
+refusal_number NoSuchEntry = no_such_entry
+refusal_number BytesLeft = bytes_left
+refusal_number WrongLength = wrong_length
+refusal_number NoSuchPlace = no_such_place
+refusal_number StillWaits = still_waits
+refusal_number HasClashed = has_clashed
+refusal_number ItemsPending = items_pending
+refusal_number NotSound = not_sound
+refusal_number NoRoom = no_room
+refusal_number NotAsLoaded = not_as_loaded

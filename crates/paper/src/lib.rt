@@ -3,13 +3,23 @@
 #![tactic(auto)]
 
 pub mod refusal; // refusal.rt: the refusal numbers
+mod refused; // refused.rt: what is refused, and where
 pub mod sizes; // sizes.rt: limits and sizes
+
+pub use refused::{Fault, Refusal};
 
 // What reading a number finds: its value and the next position, or a refusal and the position where the number starts.
 #[derive(Clone, Copy)]
 pub enum Num {
     Got(u64, usize),
     Refused(usize, usize),
+}
+
+// What is read, and the next position.
+#[derive(Clone, Copy)]
+pub struct Found<T> {
+    pub value: T,
+    pub next: usize,
 }
 
 // "A pending item is a statement (1), an ask (2) or a news (3), each carrying cabinet, left and right, one byte each."
