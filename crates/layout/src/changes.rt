@@ -7,7 +7,7 @@ ghost use Rattle.layout.specs.Fields.{bytes_of, count_of};
 ghost use Rattle.layout.specs.Changes.{with_count, bytes_of_item, removed_at, appended, with_store, with_owner, with_pair, with_clash, cleared, with_sizes, with_record};
 
 use super::fields::{Store, count};
-use super::offsets;
+use super::offsets::{self, Run};
 use paper::{Item, sizes};
 
 // The lowest byte of n.
@@ -69,8 +69,7 @@ fn close_gap(run: &mut [u8], at: usize, end: usize)
 }
 
 // The pending count becomes n.
-fn set_count(run: &mut [u8], n: usize)
-    requires { length run.old ≡ run_bytes }
+fn set_count(run: &mut Run, n: usize)
     ensures { run.new ≡ with_count n run.old }
 {
     run[offsets::COUNT] = low(n);
@@ -78,8 +77,8 @@ fn set_count(run: &mut [u8], n: usize)
 }
 
 // The pending item at place p goes; later ones move up.
-pub fn remove_item(run: &mut [u8], p: usize)
-    requires { (length run.old ≡ run_bytes) × (count_of run.old ≤ room) × (p < count_of run.old) }
+pub fn remove_item(run: &mut Run, p: usize)
+    requires { (count_of run.old ≤ room) × (p < count_of run.old) }
     ensures { run.new ≡ removed_at p run.old }
 {
     let n = count(run);
@@ -116,8 +115,8 @@ fn put_item(run: &mut [u8], at: usize, j: Item)
 }
 
 // One pending item more, at the end.
-pub fn append_item(run: &mut [u8], j: Item)
-    requires { (length run.old ≡ run_bytes) × (count_of run.old < room) }
+pub fn append_item(run: &mut Run, j: Item)
+    requires { count_of run.old < room }
     ensures { run.new ≡ appended j run.old }
 {
     let n = count(run);
@@ -126,8 +125,8 @@ pub fn append_item(run: &mut [u8], j: Item)
 }
 
 // The store of cabinet c goes back.
-pub fn save_store(run: &mut [u8], c: usize, s: Store)
-    requires { (length run.old ≡ run_bytes) × (c < most_cabinets) }
+pub fn save_store(run: &mut Run, c: usize, s: Store)
+    requires { c < most_cabinets }
     ensures { run.new ≡ with_store c s.marks run.old }
 {
     copy_in(
@@ -139,24 +138,23 @@ pub fn save_store(run: &mut [u8], c: usize, s: Store)
 }
 
 // The owner mark of unknown x becomes u.
-pub fn set_owner(run: &mut [u8], x: usize, u: u8)
-    requires { (length run.old ≡ run_bytes) × (x < most_unknowns) }
+pub fn set_owner(run: &mut Run, x: usize, u: u8)
+    requires { x < most_unknowns }
     ensures { run.new ≡ with_owner x u run.old }
 {
     run[offsets::OWNERS + x] = u;
 }
 
 // The pair x, y, greater first, is met in the memo of cabinet c.
-pub fn set_pair(run: &mut [u8], c: usize, x: usize, y: usize)
-    requires { (length run.old ≡ run_bytes) × (c < most_cabinets) × (x < most_unknowns) × (y < most_unknowns) }
+pub fn set_pair(run: &mut Run, c: usize, x: usize, y: usize)
+    requires { (c < most_cabinets) × (x < most_unknowns) × (y < most_unknowns) }
     ensures { run.new ≡ with_pair c x y run.old }
 {
     run[offsets::MEMOS + offsets::MEMO_BYTES * c + sizes::MOST_UNKNOWNS * x + y] = 1;
 }
 
 // The run clashed in cabinet c.
-pub fn set_clash(run: &mut [u8], c: u8)
-    requires { length run.old ≡ run_bytes }
+pub fn set_clash(run: &mut Run, c: u8)
     ensures { run.new ≡ with_clash c run.old }
 {
     run[offsets::CLASH] = 1;
@@ -164,8 +162,7 @@ pub fn set_clash(run: &mut [u8], c: u8)
 }
 
 // No record and no item; every mark 255, every memo byte 0.
-pub fn clear(run: &mut [u8])
-    requires { length run.old ≡ run_bytes }
+pub fn clear(run: &mut Run)
     ensures { run.new ≡ cleared }
 {
     fill(run, 0, offsets::OWNERS, 0);
@@ -174,8 +171,7 @@ pub fn clear(run: &mut [u8])
 }
 
 // S, V, R and E.
-pub fn set_sizes(run: &mut [u8], s: u8, v: u8, r: u8, e: u8)
-    requires { length run.old ≡ run_bytes }
+pub fn set_sizes(run: &mut Run, s: u8, v: u8, r: u8, e: u8)
     ensures { run.new ≡ with_sizes s v r e run.old }
 {
     put4(run, offsets::CABINETS, s, v, r, e);
@@ -196,13 +192,13 @@ pub fn put_head(run: &mut [u8], at: usize, symbol: u64, n: u8)
 
 // Record i: its symbol, its part count and its parts; parts beyond the count stay as they were.
 pub fn set_record(
-    run: &mut [u8],
+    run: &mut Run,
     i: usize,
     symbol: u64,
     count: usize,
     parts: [u8; sizes::MOST_PARTS],
 )
-    requires { (length run.old ≡ run_bytes) × (i < most_records) × (count ≤ most_parts) × (symbol < number_limit) }
+    requires { (i < most_records) × (count ≤ most_parts) × (symbol < number_limit) }
     ensures { run.new ≡ with_record i (record { symbol = symbol; parts = take count parts }) run.old }
 {
     let at = offsets::TABLE + offsets::RECORD_BYTES * i;

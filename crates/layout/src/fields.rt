@@ -8,7 +8,7 @@ ghost use Rattle.layout.specs.Changes.{store_of};
 ghost use Rattle.layout.specs.Given.{Reads, byte_limit, count_limit};
 ghost use Rattle.layout.specs.Soundness.{all_are};
 
-use super::offsets;
+use super::offsets::{self, Run};
 use paper::{Item, sizes};
 
 // A byte as a number.
@@ -52,64 +52,57 @@ pub fn all_are(run: &[u8], n: usize, at: usize, v: u8) -> bool
 }
 
 // S, how many cabinets there are.
-pub fn cabinets(run: &[u8]) -> usize
-    requires { length run.now ≡ run_bytes }
+pub fn cabinets(run: &Run) -> usize
     ensures { Reads (byte_at run.now cabinets_at) byte_limit result }
 {
     byte(run, offsets::CABINETS)
 }
 
 // V, how many unknowns.
-pub fn unknowns(run: &[u8]) -> usize
-    requires { length run.now ≡ run_bytes }
+pub fn unknowns(run: &Run) -> usize
     ensures { Reads (byte_at run.now unknowns_at) byte_limit result }
 {
     byte(run, offsets::UNKNOWNS)
 }
 
 // R, how many records.
-pub fn records(run: &[u8]) -> usize
-    requires { length run.now ≡ run_bytes }
+pub fn records(run: &Run) -> usize
     ensures { Reads (byte_at run.now records_at) byte_limit result }
 {
     byte(run, offsets::RECORDS)
 }
 
 // E, how many statements the file has.
-pub fn statements(run: &[u8]) -> usize
-    requires { length run.now ≡ run_bytes }
+pub fn statements(run: &Run) -> usize
     ensures { Reads (byte_at run.now statements_at) byte_limit result }
 {
     byte(run, offsets::STATEMENTS)
 }
 
 // 0 while the run is running, 1 once it clashed.
-pub fn clash_byte(run: &[u8]) -> usize
-    requires { length run.now ≡ run_bytes }
+pub fn clash_byte(run: &Run) -> usize
     ensures { Reads (byte_at run.now clash_at) byte_limit result }
 {
     byte(run, offsets::CLASH)
 }
 
 // The cabinet of the clash, else 0.
-pub fn clash_cabinet(run: &[u8]) -> usize
-    requires { length run.now ≡ run_bytes }
+pub fn clash_cabinet(run: &Run) -> usize
     ensures { Reads (byte_at run.now clash_cabinet_at) byte_limit result }
 {
     byte(run, offsets::CLASH_CABINET)
 }
 
 // How many items are pending: two bytes, low first.
-pub fn count(run: &[u8]) -> usize
-    requires { length run.now ≡ run_bytes }
+pub fn count(run: &Run) -> usize
     ensures { Reads (count_of run.now) count_limit result }
 {
     byte(run, offsets::COUNT) + 256 * byte(run, offsets::COUNT + 1)
 }
 
 // The pending item at place p. A sound run's kinds are 1, 2 and 3.
-pub fn item_at(run: &[u8], p: usize) -> Item
-    requires { (length run.now ≡ run_bytes) × (p < room) }
+pub fn item_at(run: &Run, p: usize) -> Item
+    requires { p < room }
     ensures { result ≡ item_at run.now p }
 {
     let at = offsets::PENDING + offsets::ITEM_BYTES * p;
@@ -137,8 +130,8 @@ pub fn item_at(run: &[u8], p: usize) -> Item
 }
 
 // The symbol of record i: four bytes, low first.
-pub fn symbol_at(run: &[u8], i: usize) -> u64
-    requires { (length run.now ≡ run_bytes) × (i < most_records) }
+pub fn symbol_at(run: &Run, i: usize) -> u64
+    requires { i < most_records }
     ensures { Reads (symbol_of run.now i) number_limit result }
 {
     let at = offsets::TABLE + offsets::RECORD_BYTES * i;
@@ -148,8 +141,8 @@ pub fn symbol_at(run: &[u8], i: usize) -> u64
 }
 
 // How many parts record i has.
-pub fn part_count(run: &[u8], i: usize) -> usize
-    requires { (length run.now ≡ run_bytes) × (i < most_records) }
+pub fn part_count(run: &Run, i: usize) -> usize
+    requires { i < most_records }
     ensures { Reads (part_count_of run.now i) byte_limit result }
 {
     byte(
@@ -159,8 +152,8 @@ pub fn part_count(run: &[u8], i: usize) -> usize
 }
 
 // Part k of record i.
-pub fn part_at(run: &[u8], i: usize, k: usize) -> usize
-    requires { (length run.now ≡ run_bytes) × (i < most_records) × (k < most_parts) }
+pub fn part_at(run: &Run, i: usize, k: usize) -> usize
+    requires { (i < most_records) × (k < most_parts) }
     ensures { Reads (part_of run.now i k) byte_limit result }
 {
     byte(
@@ -170,8 +163,8 @@ pub fn part_at(run: &[u8], i: usize, k: usize) -> usize
 }
 
 // Whether records i and k have the same symbol and part count.
-pub fn same_head(run: &[u8], i: usize, k: usize) -> bool
-    requires { (length run.now ≡ run_bytes) × (i < most_records) × (k < most_records) }
+pub fn same_head(run: &Run, i: usize, k: usize) -> bool
+    requires { (i < most_records) × (k < most_records) }
     ensures { result ≡ same_head (record_of run.now i) (record_of run.now k) }
 {
     if symbol_at(run, i) != symbol_at(run, k) {
@@ -181,16 +174,16 @@ pub fn same_head(run: &[u8], i: usize, k: usize) -> bool
 }
 
 // The owner mark of unknown x.
-pub fn owner_at(run: &[u8], x: usize) -> usize
-    requires { (length run.now ≡ run_bytes) × (x < most_unknowns) }
+pub fn owner_at(run: &Run, x: usize) -> usize
+    requires { x < most_unknowns }
     ensures { Reads (byte_at run.now (owners_at + x)) byte_limit result }
 {
     byte(run, offsets::OWNERS + x)
 }
 
 // The byte of the pair x, y, greater first, in the memo of cabinet c.
-pub fn pair_at(run: &[u8], c: usize, x: usize, y: usize) -> usize
-    requires { (length run.now ≡ run_bytes) × (c < most_cabinets) × (x < most_unknowns) × (y < most_unknowns) }
+pub fn pair_at(run: &Run, c: usize, x: usize, y: usize) -> usize
+    requires { (c < most_cabinets) × (x < most_unknowns) × (y < most_unknowns) }
     ensures { Reads (byte_at run.now (memo_from c x y)) byte_limit result }
 {
     byte(
@@ -211,8 +204,8 @@ pub struct Store {
 }
 
 // The store of cabinet c, copied out.
-pub fn load_store(run: &[u8], c: usize) -> Store
-    requires { (length run.now ≡ run_bytes) × (c < most_cabinets) }
+pub fn load_store(run: &Run, c: usize) -> Store
+    requires { c < most_cabinets }
     ensures { result.marks ≡ store_of c run.now }
 {
     let at = offsets::STORES + sizes::MOST_UNKNOWNS * c;
