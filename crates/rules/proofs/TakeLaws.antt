@@ -45,16 +45,6 @@ module _ (d : List ℕ) (p n : ℕ) (t : Bool) (e : t ≡ full_for n d) where
   pub room_fits : t ≡ false → Fits d p 0 → Fits d p n
   room_fits f h = record { long = h.long; count = h.count; place = h.place; enough = enough f }
 
-moves_not : (d : List ℕ) (c a b : ℕ) (q : Choice) → (q ≡ Waits → ⊥) → false ≡ waits_in (plan_of_choice d c a b q)
-moves_not d c a b Waits w = absurd (w refl)
-moves_not d c a b Interchange w = refl
-moves_not d c a b Memo w = refl
-moves_not d c a b (Dereference m) w = refl
-moves_not d c a b Identify w = refl
-moves_not d c a b Conflict w = refl
-moves_not d c a b Decompose w = refl
-moves_not d c a b Initiate w = refl
-
 none_more : (d : List ℕ) (p : ℕ) → Fits d p 0 → leb (count_of d - 1 + 0) room ≡ true
 none_more d p h = le-leb (count_of d - 1 + 0) room h.enough
 
@@ -72,12 +62,6 @@ performed_full d p c a b Initiate e f h = rw h
 
 -- a statement
 module _ (d : List ℕ) (p c a b : ℕ) (q : Choice) (e : q ≡ choice_of (byte_at d unknowns_at) d c a b) where
-  pub waits_yes : q ≡ Waits → true ≡ waits_in (plan_of_choice d c a b (choice_of (byte_at d unknowns_at) d c a b))
-  waits_yes f = rw (← e, f)
-
-  pub waits_no : (q ≡ Waits → ⊥) → false ≡ waits_in (plan_of_choice d c a b (choice_of (byte_at d unknowns_at) d c a b))
-  waits_no w = rw (← e) (moves_not d c a b q w)
-
   module _ (n : ℕ) (r : Reads (product_count d a q) byte_limit n) (t : Bool) (h : t ≡ full_for n d) (g : Fits d p 0) where
     pub statement_full : t ≡ true → out no_room 0 d ≡ performed_bytes d p (plan_of_choice d c a b (choice_of (byte_at d unknowns_at) d c a b))
     statement_full f = rw (← e) (performed_full d p c a b q e g (rw (← r.same) (too_many d p n t h f)))
@@ -87,9 +71,6 @@ module _ (d : List ℕ) (p c a b : ℕ) (q : Choice) (e : q ≡ choice_of (byte_
 
 -- an ask and a news
 module _ (d : List ℕ) (p x u o : ℕ) (r : Reads (byte_at d (owners_at + x)) byte_limit o) where
-  pub ask_lost : (d' : List ℕ) → (o ≡ 255 → ⊥) → Fits d p 0 → d' ≡ removed_at p d → out 0 9 d' ≡ performed_bytes d p (plan_of_ask d x u (byte_at d (owners_at + x)))
-  ask_lost d' h g e = rw (← r.same, ne_eqb o 255 h, none_more d p g, e)
-
   module _ (h : o ≡ 255) (s : ℕ) (rs : Reads (byte_at d cabinets_at) byte_limit s) (t : Bool) (e : t ≡ full_for s d) where
     pub ask_full : t ≡ true → out no_room 0 d ≡ performed_bytes d p (plan_of_ask d x u (byte_at d (owners_at + x)))
     ask_full f = rw (← r.same, eq-eqb o 255 h, ← rs.same, news_count s 0 x u, too_many d p s t e f)
