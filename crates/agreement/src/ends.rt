@@ -12,6 +12,7 @@ use paper::sizes::MOST_UNKNOWNS;
 const NOTHING: usize = layout::NOTHING as usize;
 
 // A sound run, how many unknowns it has, and the entry at which the owner marks of each unknown end.
+#[derive(Drop)]
 pub struct RunEnds<'a> {
     pub run: &'a Run,
     pub unknowns: usize,
