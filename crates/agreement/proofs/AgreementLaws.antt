@@ -1,14 +1,15 @@
 -- What each way through the two functions of agreement gives, and why they end.
 use mathlib.Core.Path.{◌≡◌, refl, sym, subst, subst₂, ◌∙◌}
 use mathlib.Core.Logic.{⊎_elim}
-use mathlib.Core.Bool.{Bool, true, false, not}
+use mathlib.Core.Bool.{Bool, true, false}
 use mathlib.Core.List.{List}
 use Prim.Native.Nat.{ℕ, suc, ◌+◌, ◌-◌, ◌*◌, ◌≤◌, ◌<◌}
 use native.Mathlib.Numerals.{add-one}
 use native.Mathlib.Omega.{arith}
-use borrow.Author.Tests.{not-true, not-false, ne_eqb, eqb-true}
+use borrow.Author.Tests.{eq-eqb, ne_eqb, eqb-true}
 use lib.Dec.{eqb}
-use lib.ListN.{get_or, replicate}
+use lib.ListN.{replicate}
+use Rattle.std.specs.Prelude.{Option, Some, None, is_some}
 use Rattle.base.specs.Choice.{pick}
 use Rattle.base.specs.Lists.{list_from, Bytes}
 use Rattle.base.proofs.Tests.{snd_true}
@@ -25,8 +26,10 @@ use Rattle.layout.specs.Given.{Reads, byte_limit}
 use Rattle.layout.proofs.SoundViews.{table_ok}
 use Rattle.layout.proofs.ViewedFields.{head_byte}
 use Rattle.agreement.specs.Given.{SoundRun}
-use Rattle.agreement.specs.Ends.{ends_of, EndsAt, AllEnd}
+use Rattle.agreement.specs.Ends.{ends_of, EndsAt}
+use Rattle.agreement.specs.declared.met.Met.{Met}
 use Rattle.agreement.specs.Met.{met_of, settled_in}
+use Rattle.agreement.specs.Agreed.{UnknownsApart, UnknownsAgree, PartsApart, PartsAgree}
 use Rattle.agreement.proofs.Ranges.{tests}
 use Rattle.agreement.proofs.Chains.{open_end, record_end}
 use Rattle.agreement.proofs.MetTable.{two_unknowns, not_met, none_met}
@@ -44,30 +47,18 @@ settled_agrees e x y m h = by_test (eqb x y) refl h
     by_test false d t = already t
 
 -- two records whose heads were found the same
-same_count : (d : List ℕ) (i k : ℕ) (c : Bool) → c ≡ same_head (record_of d i) (record_of d k) → not c ≡ false → part_count_of d i ≡ part_count_of d k
+same_count : (d : List ℕ) (i k : ℕ) (c : Bool) → c ≡ same_head (record_of d i) (record_of d k) → c ≡ true → part_count_of d i ≡ part_count_of d k
 same_count d i k c h t =
     eqb-true (part_count_of d i) (part_count_of d k)
-    (snd_true (eqb (symbol_of d i) (symbol_of d k)) (eqb (part_count_of d i) (part_count_of d k)) (sym (head_byte d i k) ∙ sym h ∙ not-false c t))
+    (snd_true (eqb (symbol_of d i) (symbol_of d k)) (eqb (part_count_of d i) (part_count_of d k)) (sym (head_byte d i k) ∙ sym h ∙ t))
 
-pub same_counted : (d : List ℕ) (i k p : ℕ) (c : Bool) → c ≡ same_head (record_of d i) (record_of d k) → not c ≡ false
+pub same_counted : (d : List ℕ) (i k p : ℕ) (c : Bool) → c ≡ same_head (record_of d i) (record_of d k) → c ≡ true
     → Reads (part_count_of d i) byte_limit p → p ≡ part_count_of d k
 same_counted d i k p c h t r = r.same ∙ same_count d i k c h t
 
 -- a pair that is met for the first time, with the ends of both
-module _ (d : List ℕ) (v x y : ℕ) (es : List ℕ) (m m' : Table) (g : SoundRun d v) (w : AllEnd d v es) (hx : x < v) (hy : y < v)
-    (f : settled_in m x y ≡ false) (next : m' ≡ meeting m x y) where
-  abbrev a : ℕ
-  a = get_or es x 0
-
-  abbrev b : ℕ
-  b = get_or es y 0
-
-  ex : EndsAt d x a
-  ex = w.at x hx
-
-  ey : EndsAt d y b
-  ey = w.at y hy
-
+module _ (d : List ℕ) (v x y a b : ℕ) (m m' : Table) (g : SoundRun d v) (ex : EndsAt d x a) (ey : EndsAt d y b) (f : settled_in m x y ≡ false)
+    (next : m' ≡ meeting m x y) where
   n : x ≡ y → ⊥
   n = two_unknowns m x y f
 
@@ -86,7 +77,7 @@ module _ (d : List ℕ) (v x y : ℕ) (es : List ℕ) (m m' : Table) (g : SoundR
   record_y : v ≤ b → ends_of d y ≡ at_record (record_of d (b - v))
   record_y h = rw g.unknowns (ey.is ∙ record_end d b (omega (arith, g.unknowns)))
 
-  pub left_ends_open : a < v → Unknowns (ends_of d) x y m (eqb a b) m'
+  left_ends_open : a < v → Unknowns (ends_of d) x y m (eqb a b) m'
   left_ends_open h =
       rw next
       (⊎_elim (λ (l : b < v). opens n new (open_x h) (open_y l))
@@ -95,22 +86,35 @@ module _ (d : List ℕ) (v x y : ℕ) (es : List ℕ) (m m' : Table) (g : SoundR
       (left_open n new (open_x h) (record_y l)))
       (lt_or_le b v))
 
-  pub right_ends_open : v ≤ a → b < v → Unknowns (ends_of d) x y m false m'
-  right_ends_open h l = rw next (right_open n new (record_x h) (open_y l))
+  -- an open end agrees with itself alone
+  pub one_end : a < v → a ≡ b → Unknowns (ends_of d) x y m true m'
+  one_end h k = subst (λ (c : Bool). Unknowns (ends_of d) x y m c m') (eq-eqb a b k) (left_ends_open h)
+
+  pub two_ends : a < v → (a ≡ b → ⊥) → UnknownsApart (ends_of d) x y m
+  two_ends h k = record { after = m'; is = subst (λ (c : Bool). Unknowns (ends_of d) x y m c m') (ne_eqb a b k) (left_ends_open h) }
+
+  pub right_ends_open : v ≤ a → b < v → UnknownsApart (ends_of d) x y m
+  right_ends_open h l = record { after = m'; is = rw next (right_open n new (record_x h) (open_y l)) }
 
   module _ (h : v ≤ a) (l : v ≤ b) (c : Bool) (k : c ≡ same_head (record_of d (a - v)) (record_of d (b - v))) where
-    pub heads_apart : not c ≡ true → Unknowns (ends_of d) x y m false m'
-    heads_apart t = rw next (differ n new (record_x h) (record_y l) (sym k ∙ not-true c t))
+    pub heads_apart : c ≡ false → UnknownsApart (ends_of d) x y m
+    heads_apart t = record { after = m'; is = rw next (differ n new (record_x h) (record_y l) (sym k ∙ t)) }
 
-    module _ (t : not c ≡ false) (p : ℕ) (r : Reads (part_count_of d (a - v)) byte_limit p) where
-      pub parts_compared : (s : Bool) (m'' : Table)
+    module _ (t : c ≡ true) (p : ℕ) (r : Reads (part_count_of d (a - v)) byte_limit p) where
+      compared : (s : Bool) (m'' : Table)
           → Parts (ends_of d) (list_from (part_of d (a - v)) p 0) (list_from (part_of d (b - v)) p 0) m' s m''
           → Unknowns (ends_of d) x y m s m''
       unfolding record_of
-      parts_compared s m'' ps =
-          records n new (record_x h) (record_y l) (sym k ∙ not-false c t)
+      compared s m'' ps =
+          records n new (record_x h) (record_y l) (sym k ∙ t)
           (subst₂ (λ (i j : ℕ). Parts (ends_of d) (list_from (part_of d (a - v)) i 0) (list_from (part_of d (b - v)) j 0) (meeting m x y) s m'') r.same
           (same_counted d (a - v) (b - v) p c k t r) (rw next at ps))
+
+      pub parts_compared : (o : Option Met)
+          → PartsAgree (ends_of d) (list_from (part_of d (a - v)) p 0) (list_from (part_of d (b - v)) p 0) m' o
+          → UnknownsAgree (ends_of d) x y m o
+      parts_compared None ps = record { after = ps.after; is = compared false ps.after ps.is }
+      parts_compared (Some after) ps = compared true (met_of after.words) ps
 
 -- "pairs not yet met fall"
 pub new_pair_falls : (t v x y : ℕ) (m m' : Table) → m' ≡ meeting m x y → settled_in m x y ≡ false → x < v → y < v
@@ -137,41 +141,51 @@ module _ (v : ℕ) (e : ℕ → End) (f g : ℕ → ℕ) (n : ℕ) where
         let z : n - j ≡ 0 = omega arith in
         w.rest true m (rw z over)
 
-    module _ (p q : ℕ) (s : Bool) (m' : Table) (u : Unknowns e p q m s m') (h : j < n) (rp : Reads (f j) byte_limit p) (rq : Reads (g j) byte_limit q) where
-      here : Unknowns e (f j) (g j) m s m'
-      here = rw (rp.same, rq.same) at u
+    module _ (p q : ℕ) (h : j < n) (rp : Reads (f j) byte_limit p) (rq : Reads (g j) byte_limit q) where
+      here : (s : Bool) (m' : Table) → Unknowns e p q m s m' → Unknowns e (f j) (g j) m s m'
+      here s m' u = rw (rp.same, rq.same) at u
 
       next_place : n - j ≡ suc (n - (j + 1))
       next_place = omega arith
 
-      pub part_differs : not s ≡ true → Parts e (list_from f n 0) (list_from g n 0) m₀ false m'
-      part_differs t = w.rest false m' (rw next_place (apart (rw (not-true s t) at here)))
+      pub part_differs : UnknownsApart e p q m → PartsApart e (list_from f n 0) (list_from g n 0) m₀
+      part_differs u = record { after = u.after; is = w.rest false u.after (rw next_place (apart (here false u.after u.is))) }
 
-      pub one_more_compared : not s ≡ false → Compared v e f g n (j + 1) m₀ m'
-      one_more_compared t =
+      pub one_more_compared : (m' : Table) → Unknowns e p q m true m' → Compared v e f g n (j + 1) m₀ m'
+      one_more_compared m' u =
           record {
             rest = λ b m'' ps.
                 w.rest b m''
                 (rw next_place
-                (on (rw (not-false s t) at here)
+                (on (here true m' u)
                 (subst (λ (k : ℕ). Parts e (list_from f (n - (j + 1)) k) (list_from g (n - (j + 1)) k) m' b m'') (add-one j) ps)));
             fewer = omega (arith, w.fewer, unmet_le v m m' (met_keeps e u));
           }
 
   -- a pair that is not to be compared is passed over
-  pub settled_compared : (j : ℕ) (m₀ m : Table) (p q : ℕ) (b : Bool) → Compared v e f g n j m₀ m → b ≡ settled_in m p q → not b ≡ false → j < n
+  pub settled_compared : (j : ℕ) (m₀ m : Table) (p q : ℕ) (b : Bool) → Compared v e f g n j m₀ m → b ≡ settled_in m p q → b ≡ true → j < n
       → Reads (f j) byte_limit p → Reads (g j) byte_limit q → Compared v e f g n (j + 1) m₀ m
   settled_compared j m₀ m p q b w k t h rp rq =
-      one_more_compared j m₀ m w p q true m (settled_agrees e p q m (sym k ∙ not-false b t)) h rp rq refl
+      one_more_compared j m₀ m w p q h rp rq m (settled_agrees e p q m (sym k ∙ t))
 
 unknowns_are : (d : List ℕ) (v : ℕ) → SoundRun d v → v ≡ (table_of d).unknowns
 unfolding table_of
 unknowns_are d v g = g.unknowns
 
 -- asked with no pair met, the answer is agreement to depth V
-pub none_met_answers : (d : List ℕ) (v x y : ℕ) (s : Bool) (m : Table) → Unknowns (ends_of d) x y (met_of (replicate most_unknowns 0)) s m
+none_met_answers : (d : List ℕ) (v x y : ℕ) (s : Bool) (m : Table) → Unknowns (ends_of d) x y (met_of (replicate most_unknowns 0)) s m
     → SoundRun d v → Bytes d → x < v → y < v → s ≡ agree (ends_of d) v x y
 none_met_answers d v x y s m u g b hx hy = met_pairs_answer_depth_V (ends_of d) v (λ z h. low z) (rw none_met at u) hx hy
   where
     low : (z : ℕ) → LowEnd v (ends_of d z)
     low z = rw (unknowns_are d v g) (end_low (table_of d) (owner_of d) (table_ok d g.long (tests d v g) b) z)
+
+pub settled_answers : (d : List ℕ) (v x y : ℕ) (b : Bool) → b ≡ settled_in (met_of (replicate most_unknowns 0)) x y → b ≡ true
+    → SoundRun d v → Bytes d → x < v → y < v → b ≡ agree (ends_of d) v x y
+settled_answers d v x y b e t g f hx hy =
+    t ∙ none_met_answers d v x y true _ (settled_agrees (ends_of d) x y _ (sym e ∙ t)) g f hx hy
+
+pub asked_answers : (d : List ℕ) (v x y : ℕ) (o : Option Met) → UnknownsAgree (ends_of d) x y (met_of (replicate most_unknowns 0)) o
+    → SoundRun d v → Bytes d → x < v → y < v → is_some o ≡ agree (ends_of d) v x y
+asked_answers d v x y None u g f hx hy = none_met_answers d v x y false u.after u.is g f hx hy
+asked_answers d v x y (Some after) u g f hx hy = none_met_answers d v x y true (met_of after.words) u g f hx hy

@@ -1,5 +1,4 @@
 pub mod Ranges
 pub mod Chains
-pub mod Bits
 pub mod MetTable
 pub mod AgreementLaws

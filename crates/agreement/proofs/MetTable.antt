@@ -1,49 +1,29 @@
 -- The table of met pairs in words is the paper's table: read, with a pair put in, and empty.
 use mathlib.Core.Path.{◌≡◌, refl, sym, ap, ◌∙◌, fun_ext}
 use mathlib.Core.Logic.{⊎_elim}
-use mathlib.Core.Bool.{Bool, true, false, not}
+use mathlib.Core.Bool.{Bool, true, false}
 use mathlib.Core.List.{List}
-use Prim.Native.Nat.{ℕ, max, min, ◌+◌, ◌^◌, ◌≤◌, ◌<◌}
-use native.Mathlib.Nat.{zero-div}
+use Prim.Native.Nat.{ℕ, max, min, ◌*◌, ◌%◌, ◌^◌, ◌≤◌, ◌<◌}
 use native.Mathlib.Omega.{arith}
-use borrow.Author.Tests.{eq-eqb, ne_eqb, eqb-false, not-true}
+use borrow.Author.Tests.{eq-eqb, ne_eqb}
 use lib.Dec.{eqb}
 use lib.ListN.{length, get_or, set, replicate, get_or-replicate, length-replicate, get_or-eq_default}
 use lib.Seq.{get_or-set_same, get_or-set_other}
+use mir.Val.{bits}
+use Rattle.std.specs.Int.{bit_at, w32}
+use Rattle.std.specs.Int.RustNames.{bit_or}
+use Rattle.std.proofs.lemmas.Nat.Bits.{bit_at-zero, bit_at_set_same, bit_at_set_other}
 use Rattle.base.specs.Choice.{upd}
 use Rattle.base.proofs.Tests.{not_both}
 use Rattle.base.proofs.Changes.{upd_is}
 use Rattle.base.proofs.Regions.{lt_or_le}
+use Rattle.paper.specs.Sizes.{most_unknowns}
 use Rattle.paper.specs.Ends.{is_met, meeting}
-use Rattle.agreement.specs.Met.{bit_of, met_of, settled_in}
-use Rattle.agreement.proofs.Bits.{bit_here, bit_other, bit_small}
-
--- a pair that is not met has bit 0
-pub free_bit : (ws : List ℕ) (p q : ℕ) → met_of ws p q ≡ false → bit_of (get_or ws p 0) q ≡ 0
-unfolding met_of
-free_bit ws p q e =
-    let n : bit_of (get_or ws p 0) q ≡ 1 → ⊥ = eqb-false (bit_of (get_or ws p 0) q) 1 e in
-    omega (arith, bit_small (get_or ws p 0) q)
-
--- the pair x, y, read with the greater first
-module _ (ws : List ℕ) (x y b : ℕ) where
-  pub met_greater_y : b ≡ bit_of (get_or ws y 0) x → x < y → eqb b 1 ≡ is_met (met_of ws) x y
-  unfolding met_of
-  met_greater_y e l =
-      let g : max x y ≡ y = omega arith in
-      let s : min x y ≡ x = omega arith in
-      rw (e, g, s) refl
-
-  pub met_greater_x : b ≡ bit_of (get_or ws x 0) y → y ≤ x → eqb b 1 ≡ is_met (met_of ws) x y
-  unfolding met_of
-  met_greater_x e l =
-      let g : max x y ≡ x = omega arith in
-      let s : min x y ≡ y = omega arith in
-      rw (e, g, s) refl
+use Rattle.agreement.specs.Met.{met_of, settled_in}
 
 -- whether the pair is to be compared: as found, and what it says if it is
 module _ (m : ℕ → ℕ → Bool) (x y : ℕ) where
-  pub settled_same : x ≡ y → true ≡ settled_in m x y
+  pub settled_same : x ≡ y → eqb x y ≡ settled_in m x y
   unfolding settled_in
   settled_same e = rw (eq-eqb x y e)
 
@@ -51,61 +31,41 @@ module _ (m : ℕ → ℕ → Bool) (x y : ℕ) where
   unfolding settled_in
   settled_met b e n = rw (ne_eqb x y n) e
 
-  pub not_settled : (b : Bool) → b ≡ settled_in m x y → not b ≡ true → settled_in m x y ≡ false
-  not_settled b e t = sym e ∙ not-true b t
-
   module _ (f : settled_in m x y ≡ false) where
     pub two_unknowns : x ≡ y → ⊥
-    two_unknowns e = not_both (settled_in m x y) (sym (settled_same e)) f
+    two_unknowns e = not_both (settled_in m x y) (sym (settled_same e) ∙ eq-eqb x y e) f
 
     pub not_met : is_met m x y ≡ false
     unfolding settled_in
     not_met = rw (ne_eqb x y two_unknowns) at f
 
--- bit q of word p set, in a word w
-module _ (ws : List ℕ) (p q w : ℕ) (new : met_of ws p q ≡ false) (e : w ≡ get_or ws p 0 + 2 ^ q) (l : p < length ws) where
-  word_here : get_or (set ws p w) p 0 ≡ get_or ws p 0 + 2 ^ q
-  word_here = get_or-set_same ws p w 0 l ∙ e
+-- the pair x, y put in: a bit of a word set
+pub pair_met : (ws : List ℕ) (x y : ℕ) → length ws ≡ most_unknowns → x < most_unknowns → y < most_unknowns
+    → met_of (set ws (max x y) (bit_or (get_or ws (max x y) 0) (1 * 2 ^ min x y % 2 ^ bits w32))) ≡ meeting (met_of ws) x y
+unfolding met_of
+pair_met ws x y n hx hy =
+    upd_is (met_of ws) (met_of words) (max x y) (upd (met_of ws (max x y)) (min x y) true)
+    (upd_is (met_of ws (max x y)) (met_of words (max x y)) (min x y) true
+    (rw (here, bit_at_set_same w32 (get_or ws (max x y) 0) (min x y) within) refl)
+    (λ k d. rw (here, bit_at_set_other w32 (get_or ws (max x y) 0) (min x y) within k d) refl))
+    (λ k d. fun_ext λ q. ap (λ (m : ℕ). eqb (bit_at m q) 1) (get_or-set_other ws (max x y) k word 0 d))
+  where
+    word : ℕ
+    word = bit_or (get_or ws (max x y) 0) (1 * 2 ^ min x y % 2 ^ bits w32)
 
-  pub bit_set : met_of (set ws p w) ≡ upd (met_of ws) p (upd (met_of ws p) q true)
-  unfolding met_of
-  bit_set =
-      upd_is (met_of ws) (met_of (set ws p w)) p (upd (met_of ws p) q true)
-      (upd_is (met_of ws p) (met_of (set ws p w) p) q true
-      (rw (word_here, bit_here (get_or ws p 0) q (free_bit ws p q new)))
-      (λ k d. rw (word_here, bit_other (get_or ws p 0) q (free_bit ws p q new) k d)))
-      (λ y d. fun_ext λ k. ap (λ (m : ℕ). eqb (bit_of m k) 1) (get_or-set_other ws p y w 0 d))
+    words : List ℕ
+    words = set ws (max x y) word
 
--- a pair put in, greater first
-module _ (ws us : List ℕ) (x y : ℕ) where
-  pub meet_greater_y : met_of us ≡ upd (met_of ws) y (upd (met_of ws y) x true) → x < y → met_of us ≡ meeting (met_of ws) x y
-  meet_greater_y e l =
-      let g : max x y ≡ y = omega arith in
-      let s : min x y ≡ x = omega arith in
-      rw (g, s) e
+    within : min x y < bits w32
+    within = omega arith
 
-  pub meet_greater_x : met_of us ≡ upd (met_of ws) x (upd (met_of ws x) y true) → y ≤ x → met_of us ≡ meeting (met_of ws) x y
-  meet_greater_x e l =
-      let g : max x y ≡ x = omega arith in
-      let s : min x y ≡ y = omega arith in
-      rw (g, s) e
-
-  pub unmet_greater_y : is_met (met_of ws) x y ≡ false → x < y → met_of ws y x ≡ false
-  unmet_greater_y e l =
-      let g : max x y ≡ y = omega arith in
-      let s : min x y ≡ x = omega arith in
-      rw (g, s) at e
-
-  pub unmet_greater_x : is_met (met_of ws) x y ≡ false → y ≤ x → met_of ws x y ≡ false
-  unmet_greater_x e l =
-      let g : max x y ≡ x = omega arith in
-      let s : min x y ≡ y = omega arith in
-      rw (g, s) at e
+    here : get_or words (max x y) 0 ≡ word
+    here = get_or-set_same ws (max x y) word 0 (omega arith)
 
 -- no word has a bit
 pub none_met : (n : ℕ) → met_of (replicate n 0) ≡ (λ p q. false)
-unfolding met_of bit_of
-none_met n = fun_ext λ p. fun_ext λ q. rw (zero_word p, zero-div) refl
+unfolding met_of
+none_met n = fun_ext λ p. fun_ext λ q. rw (zero_word p, bit_at-zero q) refl
   where
     zero_word : (p : ℕ) → ◌≡◌ {A = ℕ} (get_or (replicate n 0) p 0) 0
     zero_word p =

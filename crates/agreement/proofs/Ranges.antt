@@ -1,11 +1,10 @@
 -- Ranges in a sound run: what a reader asks for and what the code's casts and calls need.
-use mathlib.Core.Path.{◌≡◌, sym, ◌∙◌}
-use mathlib.Core.Bool.{Bool, true, false, not}
+use mathlib.Core.Path.{◌≡◌}
+use mathlib.Core.Bool.{true}
 use mathlib.Core.List.{List}
-use Prim.Native.Nat.{ℕ, ◌-◌, ◌^◌, ◌≤◌, ◌<◌}
+use Prim.Native.Nat.{ℕ, ◌-◌, ◌≤◌, ◌<◌}
 use native.Mathlib.Omega.{arith}
-use borrow.Author.Tests.{not-false}
-use lib.ListN.{length, get_or}
+use lib.ListN.{length}
 use Rattle.paper.specs.Sizes.{most_unknowns, most_records}
 use Rattle.layout.specs.Offsets.{unknowns_at, records_at, run_bytes}
 use Rattle.layout.specs.Fields.{byte_at, part_count_of, part_of}
@@ -13,13 +12,11 @@ use Rattle.layout.specs.Given.{Reads, byte_limit}
 use Rattle.layout.specs.Soundness.{sound_bytes}
 use Rattle.layout.proofs.SoundViews.{Tested, tested, in_range, part_count, part_low}
 use Rattle.agreement.specs.Given.{SoundRun, OneRecord}
-use Rattle.agreement.specs.Ends.{EndsAt, AllEnd}
+use Rattle.agreement.specs.Ends.{EndsAt}
 
 -- the check passed
-pub checked_run : (d : List ℕ) (v : ℕ) (b : Bool) → length d ≡ run_bytes → b ≡ sound_bytes d → not b ≡ false
-    → Reads (byte_at d unknowns_at) byte_limit v → SoundRun d v
-checked_run d v b l e t r =
-    let s : sound_bytes d ≡ true = sym e ∙ not-false b t in
+pub checked_run : (d : List ℕ) (v : ℕ) → length d ≡ run_bytes → sound_bytes d ≡ true → Reads (byte_at d unknowns_at) byte_limit v → SoundRun d v
+checked_run d v l s r =
     let w = in_range d (tested d s) in
     record { long = l; sound = s; unknowns = r.same; few_unknowns = omega (arith, r.same, w.unknowns); few_records = w.records }
 
@@ -35,13 +32,8 @@ counted_record d v i n g h c =
 pub ended_record : (d : List ℕ) (v x a n : ℕ) → SoundRun d v → EndsAt d x a → v ≤ a → n ≡ part_count_of d (a - v) → OneRecord d v (a - v) n
 ended_record d v x a n g e h c = counted_record d v (a - v) n g (omega (arith, g.unknowns, e.entry)) c
 
--- an end looked up
-module _ (d : List ℕ) (v x : ℕ) (es : List ℕ) (g : SoundRun d v) (w : AllEnd d v es) (h : x < v) where
-  pub end_fits : get_or es x 0 < 2 ^ 64
-  end_fits = omega (arith, (w.at x h).entry, g.few_unknowns, g.unknowns, g.few_records)
-
-  pub few_ended : v ≤ get_or es x 0 → get_or es x 0 - v < most_records
-  few_ended l = omega (arith, (w.at x h).entry, g.unknowns, g.few_records)
+pub few_ended : (d : List ℕ) (v x a : ℕ) → SoundRun d v → EndsAt d x a → v ≤ a → a - v < most_records
+few_ended d v x a g e l = omega (arith, e.entry, g.unknowns, g.few_records)
 
 -- a part is an unknown
 pub part_unknown : (d : List ℕ) (v i n j p : ℕ) → OneRecord d v i n → j < n → Reads (part_of d i j) byte_limit p → p < v

@@ -1,3 +1,4 @@
 pub mod Given
 pub mod Ends
 pub mod Met
+pub mod Agreed

@@ -1,19 +1,29 @@
-// Owner marks followed to their end, for all unknowns at once too, and two records' heads compared.
-ghost use Rattle.std.specs.Prelude.{◌≡◌, ◌<◌, length};
-ghost use Rattle.paper.specs.Sizes.{most_records};
-ghost use Rattle.paper.specs.Tables.{same_head};
-ghost use Rattle.layout.specs.Offsets.{run_bytes};
-ghost use Rattle.layout.specs.Fields.{record_of};
+// A sound run's owner marks followed to their end, once for all that is asked of them.
+ghost use Rattle.std.specs.Prelude.{◌≡◌, true, ◌<◌};
+ghost use Rattle.base.specs.Lists.{Bytes};
+ghost use Rattle.layout.specs.Soundness.{sound_bytes};
 ghost use Rattle.agreement.specs.Given.{SoundRun};
 ghost use Rattle.agreement.specs.Ends.{EndsAt, AllEnd};
 
+use layout::Run;
 use paper::sizes::MOST_UNKNOWNS;
 
 // The mark of an unknown that has no owner.
 const NOTHING: usize = layout::NOTHING as usize;
 
+// A sound run, how many unknowns it has, and the entry at which the owner marks of each unknown end.
+#[derive(Drop)]
+pub struct RunEnds<'a> {
+    pub run: &'a Run,
+    pub unknowns: usize,
+    pub ends: [u8; MOST_UNKNOWNS],
+    pub ghost fits: { Bytes run.now },
+    pub ghost sound: { SoundRun run.now unknowns },
+    pub ghost followed: { AllEnd run.now unknowns ends },
+}
+
 // The entry at which the owner marks from x on end: an unknown without one, or a record.
-pub fn end_of(run: &[u8], v: usize, x: usize) -> usize
+fn end_of(run: &Run, v: usize, x: usize) -> usize
     requires { SoundRun run.now v × (x < v) }
     ensures { EndsAt run.now x result }
 {
@@ -27,16 +37,29 @@ pub fn end_of(run: &[u8], v: usize, x: usize) -> usize
     end_of(run, v, m)
 }
 
-// Where the owner marks of each unknown end: followed once, and looked up as often as agreement asks.
-pub fn ends_of(run: &[u8], v: usize) -> [u8; MOST_UNKNOWNS]
-    requires { SoundRun run.now v }
-    ensures { AllEnd run.now v result }
-{
-    let mut ends = [0u8; MOST_UNKNOWNS];
-    let mut x = 0;
-    while x < v {
-        ends[x] = end_of(run, v, x) as u8;
-        x += 1;
+impl<'a> RunEnds<'a> {
+    // The owner marks of each unknown followed.
+    pub fn of(run: &'a Run) -> Self
+        requires { sound_bytes run.now ≡ true }
+        ensures { result.run.now ≡ run.now }
+    {
+        let v = layout::unknowns(run);
+        let mut ends = [0; MOST_UNKNOWNS];
+        for x in 0..v {
+            ends[x] = end_of(run, v, x) as u8;
+        }
+        RunEnds {
+            run,
+            unknowns: v,
+            ends,
+        }
     }
-    ends
+
+    // The entry at which the owner marks from x on end.
+    pub fn end_of(&self, x: usize) -> usize
+        requires { x < self.now.unknowns }
+        ensures { EndsAt self.now.run.now x result }
+    {
+        usize::from(self.ends[x])
+    }
 }

@@ -7,110 +7,68 @@ mod met; // met.rt: the table of met pairs
 
 ghost use Rattle.std.specs.Prelude.{◌≡◌, false, ◌<◌};
 ghost use Rattle.base.specs.Lists.{list_from};
-ghost use Rattle.paper.specs.Ends.{Unknowns, Parts, agree};
+ghost use Rattle.paper.specs.Ends.{agree};
 ghost use Rattle.layout.specs.Fields.{part_of};
-ghost use Rattle.agreement.specs.Given.{SoundRun, OneRecord};
-ghost use Rattle.agreement.specs.Ends.{ends_of, AllEnd};
+ghost use Rattle.agreement.specs.Given.{OneRecord};
+ghost use Rattle.agreement.specs.Ends.{ends_of};
 ghost use Rattle.agreement.specs.Met.{met_of, settled_in};
+ghost use Rattle.agreement.specs.Agreed.{UnknownsAgree, PartsAgree};
 
-pub use ends::{end_of, ends_of};
-use met::{Met, meet, settled};
+pub use ends::RunEnds;
+use met::Met;
 use paper::sizes::MOST_UNKNOWNS;
 
-// The answer, and the table after.
-#[derive(Clone, Copy)]
-struct Agreed {
-    met: Met,
-    same: bool,
-}
-
-// Whether x and y agree, two unknowns that were not met before: they are now, and their ends are compared.
+// The table after, if x and y agree, two unknowns that were not met before: they are now, and their ends are compared.
 #[cycle(agree_parts_agree_unknowns)]
-fn agree_unknowns(
-    run: &[u8],
-    v: usize,
-    ends: &[u8; MOST_UNKNOWNS],
-    x: usize,
-    y: usize,
-    met: Met,
-) -> Agreed
-    requires { SoundRun run.now v × AllEnd run.now v ends.now × (x < v) × (y < v) × (settled_in (met_of met.words) x y ≡ false) }
-    ensures { Unknowns (ends_of run.now) x y (met_of met.words) result.same (met_of result.met.words) }
+fn agree_unknowns(ends: &RunEnds, x: usize, y: usize, met: Met) -> Option<Met>
+    requires { (x < ends.now.unknowns) × (y < ends.now.unknowns) × (settled_in (met_of met.words) x y ≡ false) }
+    ensures { UnknownsAgree (ends_of ends.now.run.now) x y (met_of met.words) result }
 {
-    let next = meet(met, x, y);
-    let a = ends[x] as usize;
-    let b = ends[y] as usize;
+    let next = met.meet(x, y);
+    let run = ends.run;
+    let v = ends.unknowns;
+    let a = ends.end_of(x);
+    let b = ends.end_of(y);
     if a < v {
-        return Agreed {
-            same: a == b,
-            met: next,
-        };
+        return if a == b { Some(next) } else { None };
     }
     if b < v {
-        return Agreed {
-            same: false,
-            met: next,
-        };
+        return None;
     }
     if !layout::same_head(run, a - v, b - v) {
-        return Agreed {
-            same: false,
-            met: next,
-        };
+        return None;
     }
     let n = layout::part_count(run, a - v);
-    agree_parts(run, v, ends, a - v, b - v, n, next)
+    agree_parts(ends, a - v, b - v, n, next)
 }
 
-// Whether the parts of records i and k, n each, agree. The table is not copied for a pair that is not to be compared.
+// The table after, if the parts of records i and k, n each, agree. The table is not copied for a pair that is not to be compared.
 #[cycle(agree_parts_agree_unknowns)]
-fn agree_parts(
-    run: &[u8],
-    v: usize,
-    ends: &[u8; MOST_UNKNOWNS],
-    i: usize,
-    k: usize,
-    n: usize,
-    met: Met,
-) -> Agreed
-    requires { AllEnd run.now v ends.now × OneRecord run.now v i n × OneRecord run.now v k n }
-    ensures { Parts (ends_of run.now) (list_from (part_of run.now i) n 0) (list_from (part_of run.now k) n 0) (met_of met.words) result.same (met_of result.met.words) }
+fn agree_parts(ends: &RunEnds, i: usize, k: usize, n: usize, met: Met) -> Option<Met>
+    requires { OneRecord ends.now.run.now ends.now.unknowns i n × OneRecord ends.now.run.now ends.now.unknowns k n }
+    ensures { PartsAgree (ends_of ends.now.run.now) (list_from (part_of ends.now.run.now i) n 0) (list_from (part_of ends.now.run.now k) n 0) (met_of met.words) result }
 {
+    let run = ends.run;
     let mut next = met;
-    let mut j = 0;
-    while j < n {
+    for j in 0..n {
         let p = layout::part_at(run, i, j);
         let q = layout::part_at(run, k, j);
-        if !settled(&next.words, p, q) {
-            let answer = agree_unknowns(run, v, ends, p, q, next);
-            let same = answer.same;
-            next = answer.met;
-            if !same {
-                return Agreed {
-                    same: false,
-                    met: next,
-                };
-            }
+        if !next.settled(p, q) {
+            next = agree_unknowns(ends, p, q, next)?;
         }
-        j += 1;
     }
-    Agreed {
-        same: true,
-        met: next,
-    }
+    Some(next)
 }
 
-// Whether x and y are the same item: they agree, asked with no pair met.
-pub fn same_item(run: &[u8], v: usize, ends: &[u8; MOST_UNKNOWNS], x: usize, y: usize) -> bool
-    requires { SoundRun run.now v × AllEnd run.now v ends.now × (x < v) × (y < v) }
-    ensures { result ≡ agree (ends_of run.now) v x y }
-{
-    let none = Met {
-        words: [0u32; MOST_UNKNOWNS],
-    };
-    if settled(&none.words, x, y) {
-        return true;
+impl<'a> RunEnds<'a> {
+    // Whether x and y are the same item: they agree, asked with no pair met.
+    pub fn same_item(&self, x: usize, y: usize) -> bool
+        requires { (x < self.now.unknowns) × (y < self.now.unknowns) }
+        ensures { result ≡ agree (ends_of self.now.run.now) self.now.unknowns x y }
+    {
+        let none = Met {
+            words: [0; MOST_UNKNOWNS],
+        };
+        none.settled(x, y) || agree_unknowns(self, x, y, none).is_some()
     }
-    let answer = agree_unknowns(run, v, ends, x, y, none);
-    answer.same
 }

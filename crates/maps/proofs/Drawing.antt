@@ -1,5 +1,5 @@
 -- The map as its rows are drawn: bytes laid at the end of those that are there, a row more, and the whole.
-use mathlib.Core.Path.{◌≡◌, refl, sym, subst, ap, ap₂, ◌∙◌}
+use mathlib.Core.Path.{◌≡◌, refl, sym, ap, ap₂, ◌∙◌}
 use mathlib.Core.List.{List, [], ◌∷◌, ◌++◌, append_assoc, append-nil}
 use Prim.Native.Nat.{ℕ, zero, suc, ◌+◌, ◌-◌, ◌*◌, ◌≤◌, ◌<◌}
 use native.Mathlib.Nat.{add-zero, add-suc, zero-add, suc-add, sub-zero, zero-sub, suc-sub-suc}
@@ -8,7 +8,6 @@ use native.Mathlib.Omega.{arith}
 use lib.ListN.{length, get_or, drop, set, replicate, length-append, length-replicate, replicate-append-replicate}
 use lib.Seq.{take_at, drop-append-add}
 use Rattle.base.specs.Regions.{put}
-use Rattle.base.proofs.Regions.{length_put}
 use Rattle.paper.specs.Sizes.{most_parts, number_limit}
 use Rattle.paper.specs.Tables.{Table}
 use Rattle.paper.specs.Runs.{Run}
@@ -19,12 +18,12 @@ use Rattle.layout.specs.Offsets.{symbol_bytes, unknowns_at, records_at, row_byte
 use Rattle.layout.specs.Fields.{byte_at, bytes_of, symbol_of, part_count_of, record_of, table_of, state_of, run_of}
 use Rattle.layout.specs.MapRows.{look_bytes, bytes_of_row, map_of}
 use Rattle.layout.specs.Given.{Reads, byte_limit}
-use Rattle.layout.proofs.ChangeLaws.{put_then, put_one, put_over}
+use Rattle.layout.proofs.ChangeLaws.{put_then, put_one}
 use Rattle.agreement.specs.Given.{SoundRun, OneRecord}
 use Rattle.agreement.specs.Ends.{ends_of, EndsAt}
 use Rattle.agreement.proofs.Ranges.{counted_record, ended_record}
 use Rattle.agreement.proofs.Chains.{open_end, record_end}
-use Rattle.maps.specs.Rows.{unknowns_of, lowest_items, lows_of, record_look_of, rows_of, laid, Drawn}
+use Rattle.maps.specs.Rows.{lowest_items, lows_of, record_look_of, rows_of, laid, Drawn}
 use Rattle.maps.proofs.Lowest.{lows_count, looked_up}
 
 drop_replicate : (k n a : ℕ) → drop k (replicate n a) ≡ replicate (n - k) a
@@ -100,7 +99,8 @@ unfolding row_at map_row row_of table_of run_of state_of
 row_is d v x g = rw g.unknowns refl
 
 -- a record's bytes put: the kind, the head s and n, the parts
-module _ (d : List ℕ) (v i at s n : ℕ) (m m₁ : List ℕ) (g : SoundRun d v) (h : i < byte_at d records_at) (fits : at + row_bytes ≤ length m + 1)
+module _ (d : List ℕ) (v i at s n : ℕ) (m m₁ : List ℕ) (g : SoundRun d v) (h : i < byte_at d records_at) (long : length m ≡ map_bytes)
+    (fits : at + row_bytes ≤ map_bytes + 1)
     (rs : Reads (symbol_of d i) number_limit s) (rn : Reads (part_count_of d i) byte_limit n)
     (e₁ : m₁ ≡ put (at + 1) (bytes_of symbol_bytes s ++ (n ∷ [])) (set m at 1)) where
   head : List ℕ
@@ -116,13 +116,6 @@ module _ (d : List ℕ) (v i at s n : ℕ) (m m₁ : List ℕ) (g : SoundRun d v
       ∙ ap (put (at + 1) (bytes_of symbol_bytes s ++ (n ∷ []))) (put_one at 1 m (omega arith))
       ∙ put_then at (1 ∷ []) (bytes_of symbol_bytes s ++ (n ∷ [])) m (omega arith)
 
-  pub parts_fit : at + 6 + n ≤ length m₁
-  unfolding head
-  parts_fit =
-      let k = counted.few in
-      let l : length m₁ ≡ length m = ap length head_put ∙ length_put at head m (omega arith) in
-      omega arith
-
   module _ (m₂ : List ℕ) (e₂ : m₂ ≡ put (at + 6) (lows_of d v i) m₁) where
     pub record_put : m₂ ≡ put at (record_look_of d v i) m
     unfolding head record_look_of
@@ -131,21 +124,6 @@ module _ (d : List ℕ) (v i at s n : ℕ) (m m₁ : List ℕ) (g : SoundRun d v
         let c = lows_count d v i n counted in
         let p : put (at + 6) (lows_of d v i) (put at head m) ≡ put at (head ++ lows_of d v i) m = put_then at head (lows_of d v i) m (omega arith) in
         e₂ ∙ ap (put (at + 6) (lows_of d v i)) head_put ∙ p ∙ rw (rs.same, rn.same) refl
-
-    pub record_length : length m₂ ≡ length m
-    unfolding head
-    record_length =
-        let k = counted.few in
-        let c = lows_count d v i n counted in
-        let p : length (put at (head ++ lows_of d v i) m) ≡ length m = length_put at (head ++ lows_of d v i) m (omega arith) in
-        ap length (e₂ ∙ ap (put (at + 6) (lows_of d v i)) head_put ∙ put_then at head (lows_of d v i) m (omega arith)) ∙ p
-
--- the run's own number of unknowns
-pub sound_here : (d : List ℕ) (v : ℕ) → SoundRun d v → SoundRun d (unknowns_of d)
-sound_here d v g = subst (SoundRun d) g.unknowns g
-
-pub items_here : (d : List ℕ) (v : ℕ) (ls : List ℕ) → SoundRun d v → ls ≡ lowest_items d v → ls ≡ lowest_items d (unknowns_of d)
-items_here d v ls g e = e ∙ ap (lowest_items d) g.unknowns
 
 -- a row drawn
 module _ (d : List ℕ) (v x a : ℕ) (m ls : List ℕ) (g : SoundRun d v) (r : ls ≡ lowest_items d v) (h : x < v) (w : Drawn d x m) (e : EndsAt d x a) where
@@ -207,7 +185,7 @@ module _ (d : List ℕ) (v x a : ℕ) (m ls : List ℕ) (g : SoundRun d v) (r : 
         ∙ rw (e.is, record_end d a (omega arith), ← u, lows_count d v (a - v) (part_count_of d (a - v)) ended)
         (ap (λ (k : ℕ). k ∷ (record_look_of d v (a - v) ++ replicate (most_parts - part_count_of d (a - v)) 0)) (sym low_is))
 
-    module _ (m' : List ℕ) (e' : m' ≡ put (row_bytes * x + 1) (record_look_of d (unknowns_of d) (a - v)) (set m (row_bytes * x) (get_or ls x 0))) where
+    module _ (m' : List ℕ) (e' : m' ≡ put (row_bytes * x + 1) (record_look_of d v (a - v)) (set m (row_bytes * x) (get_or ls x 0))) where
       filled_laid : m' ≡ laid (rows_of d x ++ filled)
       unfolding filled
       filled_laid =
@@ -215,7 +193,6 @@ module _ (d : List ℕ) (v x a : ℕ) (m ls : List ℕ) (g : SoundRun d v) (r : 
           let k = ended.few in
           let c = filled_count in
           e'
-          ∙ ap (λ (u : ℕ). put (row_bytes * x + 1) (record_look_of d u (a - v)) (set m (row_bytes * x) low)) (sym g.unknowns)
           ∙ ap (put (row_bytes * x + 1) (record_look_of d v (a - v))) low_put
           ∙ row_put (rows_of d x) (low ∷ []) (row_bytes * x) 1 w.rows refl (record_look_of d v (a - v)) (omega arith)
 
@@ -233,14 +210,11 @@ module _ (d : List ℕ) (v x a : ℕ) (m ls : List ℕ) (g : SoundRun d v) (r : 
           ∙ ap₂ (λ (i j : ℕ). i + j) filled_count (length-replicate (most_parts - n) 0)
           ∙ (let z : 7 + n + (most_parts - n) ≡ row_bytes = omega arith in z))
 
-      pub row_length : length m' ≡ length m
-      row_length = record_drawn.long ∙ sym w.long
-
 -- nothing drawn yet, and all rows drawn
-pub none_drawn : (d m m₀ : List ℕ) → m ≡ put 0 (replicate map_bytes 0) m₀ → length m₀ ≡ map_bytes → Drawn d 0 m
+pub none_drawn : (d m m₀ : List ℕ) → m ≡ replicate (length m₀) 0 → length m₀ ≡ map_bytes → Drawn d 0 m
 unfolding laid rows_of
 none_drawn d m m₀ e h =
-    let q : m ≡ replicate map_bytes 0 = e ∙ put_over (replicate map_bytes 0) m₀ (length-replicate {A = ℕ} map_bytes 0 ∙ sym h) in
+    let q : m ≡ replicate map_bytes 0 = rw h at e in
     record { long = ap length q ∙ length-replicate {A = ℕ} map_bytes 0; rows = refl; is = q }
 
 pub all_drawn : (d : List ℕ) (v x : ℕ) (m : List ℕ) → Drawn d x m → SoundRun d v → x ≤ v → v ≤ x → m ≡ map_of (table_of d) (run_of d)

@@ -15,6 +15,7 @@ use Rattle.base.proofs.Regions.{put_in, push_none, push_more, push_all}
 use Rattle.paper.specs.Sizes.{most_unknowns}
 use Rattle.paper.specs.Ends.{agree}
 use Rattle.paper.specs.Maps.{lowest_of}
+use Rattle.layout.specs.Offsets.{map_bytes}
 use Rattle.layout.specs.Fields.{part_count_of, part_of, record_of}
 use Rattle.layout.specs.Given.{Reads, byte_limit}
 use Rattle.agreement.specs.Given.{SoundRun, OneRecord}
@@ -118,15 +119,15 @@ no_lows d v i at m = push_none at 0 m (lows_of d v i)
 
 module _ (d : List ℕ) (v i n : ℕ) (w : OneRecord d v i n) where
   module _ (at j : ℕ) (m l : List ℕ) where
-    pub lows_more : (ls : List ℕ) (p : ℕ) → l ≡ put at (take j (lows_of d v i)) m → at + n ≤ length m → j < n → Reads (part_of d i j) byte_limit p
+    pub lows_more : (ls : List ℕ) (p : ℕ) → l ≡ put at (take j (lows_of d v i)) m → length m ≡ map_bytes → at + n ≤ map_bytes → j < n → Reads (part_of d i j) byte_limit p
         → ls ≡ lowest_items d v → set l (at + j) (get_or ls p 0) ≡ put at (take (j + 1) (lows_of d v i)) m
-    lows_more ls p e h k rp u =
+    lows_more ls p e t h k rp u =
         let q : get_or ls p 0 ≡ get_or (lows_of d v i) j 0 =
         looked_up d v w.run ls p u (part_unknown d v i n j p w k rp)
         ∙ ap (lowest_of (ends_of d) v) rp.same
         ∙ sym (low_at d v i n w j k)
         in
-        rw q (push_more at n m (lows_of d v i) j l h (lows_count d v i n w) k e)
+        rw q (push_more at n m (lows_of d v i) j l (omega arith) (lows_count d v i n w) k e)
 
     pub lows_all : l ≡ put at (take j (lows_of d v i)) m → j ≤ n → n ≤ j → l ≡ put at (lows_of d v i) m
     lows_all e h k = push_all at n m (lows_of d v i) j l (lows_count d v i n w) h k e

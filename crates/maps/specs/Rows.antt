@@ -5,14 +5,10 @@ use Rattle.base.specs.Regions.{put}
 use Rattle.paper.specs.Sizes.{most_unknowns}
 use Rattle.paper.specs.Files.{each}
 use Rattle.paper.specs.Maps.{lowest_of, rows_from}
-use Rattle.layout.specs.Offsets.{unknowns_at, symbol_bytes, row_bytes, map_bytes}
-use Rattle.layout.specs.Fields.{byte_at, bytes_of, symbol_of, part_count_of, record_of, table_of, run_of}
+use Rattle.layout.specs.Offsets.{symbol_bytes, row_bytes, map_bytes}
+use Rattle.layout.specs.Fields.{bytes_of, symbol_of, part_count_of, record_of, table_of, run_of}
 use Rattle.layout.specs.MapRows.{bytes_of_row}
 use Rattle.agreement.specs.Ends.{ends_of}
-
--- how many unknowns the run has
-abbrev pub unknowns_of : List ℕ → ℕ
-unknowns_of d = byte_at d unknowns_at
 
 -- the lowest same item of each unknown, and 0 from v on
 unfoldable pub lowest_items : List ℕ → ℕ → List ℕ

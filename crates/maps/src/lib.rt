@@ -5,32 +5,30 @@ mod lows; // lows.rt: the lowest same item of each unknown
 mod rows; // rows.rt: the rows of the map
 
 ghost use Rattle.std.specs.Prelude.{◌≡◌};
-ghost use Rattle.maps.specs.Bytes.{mapped, map_bytes_of};
+ghost use Rattle.maps.specs.Bytes.{told, map_bytes_of};
 
-use paper::refusal;
+use paper::Refusal;
 use rows::draw;
 
-const DONE: usize = 0;
-
-// The map of a run that is over, or the refusal's number; a refusal leaves the map's bytes.
-pub fn map(run: &[u8], map: &mut [u8]) -> usize
-    ensures { mapped result map.new ≡ map_bytes_of run.now map.old }
+// The map of a run that is over, or the refusal; a refusal leaves the map's bytes.
+pub fn map(run: &[u8], map: &mut [u8]) -> Result<(), Refusal>
+    ensures { told result map.new ≡ map_bytes_of run.now map.old }
 {
-    if run.len() != layout::RUN_BYTES {
-        return refusal::WRONG_LENGTH;
-    }
-    if map.len() != layout::MAP_BYTES {
-        return refusal::WRONG_LENGTH;
-    }
+    let Some(run) = run.as_array() else {
+        return Err(Refusal::WrongLength);
+    };
+    let Some(map) = map.as_mut_array() else {
+        return Err(Refusal::WrongLength);
+    };
     if !soundness::sound(run) {
-        return refusal::NOT_SOUND;
+        return Err(Refusal::NotSound);
     }
     if layout::clash_byte(run) != 0 {
-        return refusal::HAS_CLASHED;
+        return Err(Refusal::HasClashed);
     }
     if layout::count(run) != 0 {
-        return refusal::ITEMS_PENDING;
+        return Err(Refusal::ItemsPending);
     }
-    draw(run, layout::unknowns(run), map);
-    DONE
+    draw(run, map);
+    Ok(())
 }

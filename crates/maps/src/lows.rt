@@ -1,40 +1,47 @@
 // The lowest same item of each unknown, asked for once: a part may be a later unknown, so this goes before the rows.
-ghost use Rattle.std.specs.Prelude.{◌≡◌, ◌<◌};
+ghost use Rattle.std.specs.Prelude.{◌≡◌, true, ◌<◌};
 ghost use Rattle.paper.specs.Maps.{lowest_of};
 ghost use Rattle.layout.specs.Given.{Reads, byte_limit};
-ghost use Rattle.agreement.specs.Given.{SoundRun};
-ghost use Rattle.agreement.specs.Ends.{ends_of, AllEnd};
+ghost use Rattle.layout.specs.Soundness.{sound_bytes};
+ghost use Rattle.agreement.specs.Ends.{ends_of};
 ghost use Rattle.maps.specs.Rows.{lowest_items};
 
-use agreement::{ends_of, same_item};
+use agreement::RunEnds;
+use layout::Run;
 use paper::sizes::MOST_UNKNOWNS;
 
+// A sound run with its ends, and the lowest same item of each of its unknowns, then 0.
+#[derive(Drop)]
+pub struct LowestItems<'a> {
+    pub ends: RunEnds<'a>,
+    pub lows: [u8; MOST_UNKNOWNS],
+    pub ghost are: { lows ≡ lowest_items ends.run.now ends.unknowns },
+}
+
 // The lowest unknown that is the same item as x.
-fn lowest(run: &[u8], v: usize, ends: &[u8; MOST_UNKNOWNS], x: usize) -> usize
-    requires { SoundRun run.now v × AllEnd run.now v ends.now × (x < v) }
-    ensures { Reads (lowest_of (ends_of run.now) v x) byte_limit result }
+fn lowest(ends: &RunEnds, x: usize) -> usize
+    requires { x < ends.now.unknowns }
+    ensures { Reads (lowest_of (ends_of ends.now.run.now) ends.now.unknowns x) byte_limit result }
 {
-    let mut y = 0;
-    while y < x {
-        if same_item(run, v, ends, x, y) {
+    for y in 0..x {
+        if ends.same_item(x, y) {
             return y;
         }
-        y += 1;
     }
     x
 }
 
-// The lowest same item of each unknown, and 0 from v on.
-pub fn lowest_items(run: &[u8], v: usize) -> [u8; MOST_UNKNOWNS]
-    requires { SoundRun run.now v }
-    ensures { result ≡ lowest_items run.now v }
-{
-    let ends = ends_of(run, v);
-    let mut lows = [0u8; MOST_UNKNOWNS];
-    let mut x = 0;
-    while x < v {
-        lows[x] = lowest(run, v, &ends, x) as u8;
-        x += 1;
+impl<'a> LowestItems<'a> {
+    // The lowest same item of each unknown.
+    pub fn of(run: &'a Run) -> Self
+        requires { sound_bytes run.now ≡ true }
+        ensures { result.ends.run.now ≡ run.now }
+    {
+        let ends = RunEnds::of(run);
+        let mut lows = [0; MOST_UNKNOWNS];
+        for x in 0..ends.unknowns {
+            lows[x] = lowest(&ends, x) as u8;
+        }
+        LowestItems { ends, lows }
     }
-    lows
 }

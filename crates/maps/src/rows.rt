@@ -1,15 +1,15 @@
 // The rows of the map, each in its 11 bytes.
-ghost use Rattle.std.specs.Prelude.{◌≡◌, ◌+◌, ◌≤◌, ◌<◌, length};
+ghost use Rattle.std.specs.Prelude.{◌≡◌, true, ◌+◌, ◌≤◌, ◌<◌};
 ghost use Rattle.base.specs.Regions.{put};
 ghost use Rattle.layout.specs.Offsets.{records_at, row_bytes, map_bytes};
 ghost use Rattle.layout.specs.Fields.{byte_at, table_of, run_of};
 ghost use Rattle.layout.specs.MapRows.{map_of};
-ghost use Rattle.agreement.specs.Given.{SoundRun, OneRecord};
-ghost use Rattle.maps.specs.Rows.{unknowns_of, lowest_items, lows_of, record_look_of, Drawn};
+ghost use Rattle.layout.specs.Soundness.{sound_bytes};
+ghost use Rattle.agreement.specs.Given.{OneRecord};
+ghost use Rattle.maps.specs.Rows.{lows_of, record_look_of, Drawn};
 
-use crate::lows::lowest_items;
-use agreement::end_of;
-use paper::sizes::MOST_UNKNOWNS;
+use crate::lows::LowestItems;
+use layout::{Map, Run};
 
 // The kind of a row that is not open.
 const RECORD: u8 = 1;
@@ -18,53 +18,52 @@ const RECORD: u8 = 1;
 const HEAD_BYTES: usize = 1 + layout::SYMBOL_BYTES + 1;
 
 // The lowest same item of each of the n parts of record i, from `at` on.
-fn write_lows(run: &[u8], lows: &[u8; MOST_UNKNOWNS], i: usize, n: usize, map: &mut [u8], at: usize)
-    requires { OneRecord run.now (unknowns_of run.now) i n × (lows.now ≡ lowest_items run.now (unknowns_of run.now)) × (at + n ≤ length map.old) }
-    ensures { map.new ≡ put at (lows_of run.now (unknowns_of run.now) i) map.old }
+fn write_lows(items: &LowestItems, i: usize, n: usize, map: &mut Map, at: usize)
+    requires { OneRecord items.now.ends.run.now items.now.ends.unknowns i n × (at + n ≤ map_bytes) }
+    ensures { map.new ≡ put at (lows_of items.now.ends.run.now items.now.ends.unknowns i) map.old }
 {
-    let mut j = 0;
-    while j < n {
+    let run = items.ends.run;
+    for j in 0..n {
         let p = layout::part_at(run, i, j);
-        map[at + j] = lows[p];
-        j += 1;
+        map[at + j] = items.lows[p];
     }
 }
 
 // The row of record i after its first byte, from `at` on: the kind, the symbol, the part count, the parts.
-fn write_record(run: &[u8], lows: &[u8; MOST_UNKNOWNS], i: usize, map: &mut [u8], at: usize)
-    requires { SoundRun run.now (unknowns_of run.now) × (lows.now ≡ lowest_items run.now (unknowns_of run.now)) × (i < byte_at run.now records_at) × (at + row_bytes ≤ length map.old + 1) }
-    ensures { map.new ≡ put at (record_look_of run.now (unknowns_of run.now) i) map.old }
+fn write_record(items: &LowestItems, i: usize, map: &mut Map, at: usize)
+    requires { (i < byte_at items.now.ends.run.now records_at) × (at + row_bytes ≤ map_bytes + 1) }
+    ensures { map.new ≡ put at (record_look_of items.now.ends.run.now items.now.ends.unknowns i) map.old }
 {
+    let run = items.ends.run;
     let n = layout::part_count(run, i);
     map[at] = RECORD;
     layout::put_head(map, at + 1, layout::symbol_at(run, i), n as u8);
-    write_lows(run, lows, i, n, map, at + HEAD_BYTES);
+    write_lows(items, i, n, map, at + HEAD_BYTES);
 }
 
 // Row x, of a map in which the rows before it are drawn and all else is 0.
-fn write_row(run: &[u8], v: usize, lows: &[u8; MOST_UNKNOWNS], x: usize, map: &mut [u8])
-    requires { SoundRun run.now v × (lows.now ≡ lowest_items run.now v) × (x < v) × Drawn run.now x map.old }
-    ensures { Drawn run.now (x + 1) map.new }
+fn write_row(items: &LowestItems, x: usize, map: &mut Map)
+    requires { (x < items.now.ends.unknowns) × Drawn items.now.ends.run.now x map.old }
+    ensures { Drawn items.now.ends.run.now (x + 1) map.new }
 {
+    let v = items.ends.unknowns;
     let at = layout::ROW_BYTES * x;
-    map[at] = lows[x];
-    let a = end_of(run, v, x);
+    map[at] = items.lows[x];
+    let a = items.ends.end_of(x);
     if a < v {
         return;
     }
-    write_record(run, lows, a - v, map, at + 1);
+    write_record(items, a - v, map, at + 1);
 }
 
 // The whole map: all 0 at first, then row by row.
-pub fn draw(run: &[u8], v: usize, map: &mut [u8])
-    requires { SoundRun run.now v × (length map.old ≡ map_bytes) }
+pub fn draw(run: &Run, map: &mut Map)
+    requires { sound_bytes run.now ≡ true }
     ensures { map.new ≡ map_of (table_of run.now) (run_of run.now) }
 {
-    layout::fill(map, 0, layout::MAP_BYTES, 0);
-    let lows = lowest_items(run, v);
-    let mut x = 0;
-    while x < v {
-        write_row(run, v, &lows, x, map);
-        x += 1;
+    let items = LowestItems::of(run);
+    map.fill(0);
+    for x in 0..items.ends.unknowns {
+        write_row(&items, x, map);
     }
 }

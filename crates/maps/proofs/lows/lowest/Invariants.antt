@@ -1,5 +1,5 @@
 -- `lowest` meets its contract: none below y agrees, so the lowest is the first from y on.
-use Prim.Native.Nat.{◌≤◌, ◌-◌}
+use Prim.Native.Nat.{◌-◌}
 use mathlib.Core.Path.{◌≡◌}
 use Rattle.base.specs.Choice.{first_of}
 use Rattle.paper.specs.Ends.{agree}
@@ -8,7 +8,5 @@ use Rattle.agreement.specs.Ends.{ends_of}
 use Rattle.maps.proofs.lows.lowest.Given as goal
 
 abbrev pub invariant-loop-y : goal.invariant-loop-y
-invariant-loop-y l = (l.y ≤ l.x) × (first_of (agree (ends_of l.run) l.v l.x) (l.x - l.y) l.y ≡ lowest_of (ends_of l.run) l.v l.x)
-
-abbrev pub decreases-loop-y : goal.decreases-loop-y
-decreases-loop-y l = l.x - l.y
+invariant-loop-y l =
+    first_of (agree (ends_of l.ends.run.now) l.ends.unknowns l.x) (l.x - l.y) l.y ≡ lowest_of (ends_of l.ends.run.now) l.ends.unknowns l.x

@@ -1,20 +1,16 @@
 -- `write_lows` meets its contract: after j turns the lowest same items of j parts have been put.
-use mathlib.Core.Path.{refl}
-use native.Mathlib.Omega.{arith}
-use borrow.Author.Rules.{rules}
-use lib.ListN.{length-set}
 use Rattle.agreement.proofs.Ranges.{part_few}
 use Rattle.maps.proofs.Lowest.{no_lows, lows_more, lows_all}
 use Rattle.maps.proofs.rows.write_lows.Goals as goal
 
 pub loop-j-init : goal.loop-j-init
-loop-j-init c = (search rules, refl, search no_lows)
+loop-j-init c = search no_lows
 
-pub bounds-lows-p : goal.bounds-lows-p
-bounds-lows-p c = search part_few
+pub bounds-items-p : goal.bounds-items-p
+bounds-items-p c = search part_few
 
 pub loop-j-preserved : goal.loop-j-preserved
-loop-j-preserved c = (search rules, simp length-set (omega arith), search lows_more)
+loop-j-preserved c = search lows_more
 
 pub returns : goal.returns
 returns c = search lows_all

@@ -1,0 +1,6 @@
+-- `of` meets its contract: after x turns the ends of x unknowns stand in their places.
+use Rattle.agreement.specs.Ends.{AllEnd}
+use Rattle.agreement.proofs.ends.RunEnds.of.Given as goal
+
+abbrev pub invariant-loop-x : goal.invariant-loop-x
+invariant-loop-x l = AllEnd l.run l.x l.ends
