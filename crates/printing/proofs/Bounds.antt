@@ -1,26 +1,43 @@
--- The printed map is at most most_printed bytes: each number of a row is a byte or a symbol, and there are at most 32 rows.
-use Prim.Native.Nat.{ℕ, zero, suc, ◌+◌, ◌*◌, ◌≤◌, ◌<◌}
+-- What is printed is at most most_printed bytes: each number of a row is a byte or a symbol, and there are at most 32 rows.
+use Prim.Native.Nat.{ℕ, zero, suc, ◌+◌, ◌*◌, ◌≤◌, ◌<◌, ◌^◌}
 use mathlib.Core.Path.{◌≡◌, refl, ap}
 use mathlib.Core.Bool.{Bool, true, false}
-use mathlib.Core.List.{List, ◌++◌}
+use mathlib.Core.List.{List, ◌∷◌, ◌++◌}
 use native.Mathlib.Omega.{arith}
 use lib.Dec.{eqb, leb}
 use borrow.Author.Tests.{leb-true}
-use mir.Syntax.{w8}
-use mir.Val.{Fits}
 use lib.ListN.{length, length-append}
+use Rattle.std.proofs.lemmas.Fmt.{length-decimal-le}
 use Rattle.base.specs.Choice.{pick}
 use Rattle.base.specs.Lists.{list_from, Bytes}
 use Rattle.paper.specs.Sizes.{most_unknowns, most_parts, number_limit}
 use Rattle.paper.specs.Files.{each}
 use Rattle.paper.specs.Maps.{open_look, record_look}
-use Rattle.paper.specs.Programs.{decimal, newline, spaced, spaced_all, printed_look, printed_row}
+use Rattle.paper.specs.Programs.{decimal, newline, spaced, spaced_all, printed_look, printed_row, printed_refusal}
 use Rattle.layout.specs.Offsets.{symbol_bytes}
 use Rattle.layout.specs.Fields.{byte_at}
 use Rattle.layout.specs.Given.{byte_limit}
+use Rattle.printing.specs.declared.Text.{Text}
 use Rattle.printing.specs.Prints.{row_from, lowest_at, kind_at, symbol_at, part_count_at, part_at, parts_at, look_at, row_printed, rows_printed, map_printed, most_line, most_printed}
-use Rattle.printing.proofs.Pieces.{decimal_byte, decimal_number}
-use Rattle.printing.proofs.Lines.{joined_length, items_length, map_length}
+use Rattle.printing.specs.Texts.{HasRoom}
+use Rattle.printing.proofs.Texts.{decimal_is}
+
+-- a number below a power of ten has at most so many digits
+decimal_most : (k n : ℕ) → 0 < k → n < 10 ^ k → n < 2 ^ 64 → length (decimal n) ≤ k
+decimal_most k n p h g = rw (decimal_is n g) (length-decimal-le k n p h g)
+
+decimal_byte : (n : ℕ) → n < byte_limit → length (decimal n) ≤ 3
+decimal_byte n h = decimal_most 3 n (omega arith) (omega arith) (omega arith)
+
+decimal_number : (n : ℕ) → n < number_limit → length (decimal n) ≤ 10
+decimal_number n h = decimal_most 10 n (omega arith) (omega arith) (omega arith)
+
+decimal_word : (n : ℕ) → n < 2 ^ 64 → length (decimal n) ≤ 20
+decimal_word n h = decimal_most 20 n (omega arith) (omega arith) h
+
+-- four pieces, one after the other
+joined_length : (a b c e : List ℕ) → length (a ++ (b ++ (c ++ e))) ≡ length a + (length b + (length c + length e))
+joined_length a b c e = simp length-append
 
 -- n pieces of at most b bytes
 each_most : (w : ℕ → List ℕ) (b n i : ℕ) → ((k : ℕ) → i ≤ k → k < i + n → length (w k) ≤ b) → length (each w (list_from (λ x. x) n i)) ≤ n * b
@@ -57,21 +74,24 @@ module _ (m : List ℕ) (bytes : Bytes m) where
       look_most (eqb (kind_at m x) 0) (symbol_at m x) (parts_at m x) (omega (arith, decimal_number (symbol_at m x) (symbol_most x)))
       (omega (arith, part_count_most x, spaced_most (part_at m x) (part_count_at m x) 0 (λ k. bytes (row_from x + 3 + symbol_bytes + k))))
 
-  row_split : (x : ℕ) → row_printed m x ≡ decimal x ++ (spaced (lowest_at m x) ++ (printed_look (look_at m x) ++ newline))
+  row_most : (x : ℕ) → x < most_unknowns → length (row_printed m x) ≤ most_line
   unfolding row_printed printed_row
-  row_split x = refl
-
-  pub row_most : (x : ℕ) → x < most_unknowns → length (row_printed m x) ≤ most_line
   row_most x h =
-      omega (arith, ap length (row_split x), joined_length (decimal x) (spaced (lowest_at m x)) (printed_look (look_at m x)) newline, decimal_byte x (omega arith), decimal_byte (lowest_at m x) (bytes (row_from x)), row_look_most x)
+      omega (arith, joined_length (decimal x) (spaced (lowest_at m x)) (printed_look (look_at m x)) newline, decimal_byte x (omega arith), decimal_byte (lowest_at m x) (bytes (row_from x)), row_look_most x)
 
-  rows_most : (v : ℕ) → v ≤ most_unknowns → length (rows_printed m v) ≤ v * most_line
-  rows_most v h = each_most (row_printed m) most_line v 0 (λ k l g. row_most k (omega arith))
-
-  pub map_most : (v : ℕ) → v ≤ most_unknowns → length (map_printed m v) ≤ most_printed
+  map_most : (v : ℕ) → v ≤ most_unknowns → length (map_printed m v) ≤ most_printed
+  unfolding map_printed
   map_most v h =
-      omega (arith, map_length m v, items_length v, decimal_byte v (omega arith), rows_most v h)
+      omega (arith, length-append (spaced v) (newline ++ rows_printed m v), decimal_byte v (omega arith), each_most (row_printed m) most_line v 0 (λ k l g. row_most k (omega arith)))
 
 -- a buffer of that length is enough
-pub map_fits_in : (m d : List ℕ) (v : ℕ) → v ≤ most_unknowns → most_printed ≤ length d → ((i : ℕ) → Fits w8 (byte_at m i)) → length (map_printed m v) ≤ length d
-map_fits_in m d v h g b = omega (arith, map_most m (λ i. omega (arith, b i)) v h)
+module _ (t : Text) (d : List ℕ) (same : t.buffer.now ≡ d) (start : t.end ≡ 0) (most : most_printed ≤ length d) where
+  pub map_fits : (m : List ℕ) (v : ℕ) → v ≤ most_unknowns → ((i : ℕ) → byte_at m i < 256) → HasRoom t (map_printed m v)
+  map_fits m v h b = record { fits = omega (arith, ap length same, map_most m b v h) }
+
+  pub refusal_fits : (k p : ℕ) → k < 2 ^ 64 → p < 2 ^ 64 → HasRoom t (printed_refusal k p)
+  unfolding printed_refusal
+  refusal_fits k p h g =
+      record {
+        fits = omega (arith, ap length same, length-append (spaced k) (32 ∷ 97 ∷ 116 ∷ (spaced p ++ newline)), length-append (spaced p) newline, decimal_word k h, decimal_word p g);
+      }

@@ -1,4 +1,4 @@
-pub mod Pieces
-pub mod Lines
+pub mod Texts
 pub mod Bounds
+pub mod Lines
 pub mod MapText

@@ -20,7 +20,7 @@ use Rattle.paper.specs.Programs.{decimal, spaced, newline, printed_row, printed_
 use Rattle.layout.specs.Offsets.{symbol_bytes, row_bytes, map_bytes}
 use Rattle.layout.specs.Fields.{byte_at}
 use Rattle.layout.specs.MapRows.{look_bytes, bytes_of_row, map_of}
-use Rattle.printing.specs.Prints.{row_from, lowest_at, symbol_at, part_count_at, part_at, parts_at, look_at, row_at, row_printed, rows_printed, items_printed, map_printed}
+use Rattle.printing.specs.Prints.{row_from, lowest_at, symbol_at, part_count_at, part_at, parts_at, look_at, row_at, row_printed, map_printed}
 
 -- a look that a row's bytes hold: a symbol of four bytes, and at most four parts
 abbrev LookOk : Look → Type 0
@@ -177,10 +177,9 @@ module _ (t : Table) (r : Run) (ok : TableOk t) where
       ap₂ (λ (a b : List ℕ). a ++ b) (row_text x (omega arith)) (rows_text k (suc x) (omega arith))
 
   pub map_text : map_printed (map_of t r) t.unknowns ≡ printed_map t r
-  unfolding map_printed items_printed printed_map
+  unfolding map_printed printed_map
   map_text =
-      ap (λ (l : List ℕ). 105 ∷ 116 ∷ 101 ∷ 109 ∷ 115 ∷ l) (append_assoc (spaced t.unknowns) newline (rows_printed (map_of t r) t.unknowns))
-      ∙ ap (λ (l : List ℕ). 105 ∷ 116 ∷ 101 ∷ 109 ∷ 115 ∷ (spaced t.unknowns ++ (newline ++ l))) (rows_text t.unknowns 0 (omega arith))
+      ap (λ (l : List ℕ). 105 ∷ 116 ∷ 101 ∷ 109 ∷ 115 ∷ (spaced t.unknowns ++ (newline ++ l))) (rows_text t.unknowns 0 (omega arith))
 
   -- so what `print_map` puts of such a map is the paper's text
   pub map_printed_lem : {m : List ℕ} {v : ℕ} {b a : List ℕ} {n : ℕ} → m ≡ map_of t r → v ≡ t.unknowns → PutFrom 0 (map_printed m v) b a n
@@ -197,5 +196,5 @@ pub example_text :
     ≡ 105 ∷ 116 ∷ 101 ∷ 109 ∷ 115 ∷ 32 ∷ 50 ∷ 10
     ∷ 48 ∷ 32 ∷ 48 ∷ 32 ∷ 112 ∷ 108 ∷ 97 ∷ 116 ∷ 101 ∷ 32 ∷ 55 ∷ 32 ∷ 48 ∷ 10
     ∷ 49 ∷ 32 ∷ 48 ∷ 32 ∷ 112 ∷ 108 ∷ 97 ∷ 116 ∷ 101 ∷ 32 ∷ 55 ∷ 32 ∷ 48 ∷ 10 ∷ []
-unfolding map_printed items_printed row_printed printed_row look_at symbol_at part_count_at decimal
+unfolding map_printed row_printed printed_row look_at symbol_at part_count_at decimal
 example_text = refl

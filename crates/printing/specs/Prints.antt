@@ -58,20 +58,9 @@ row_printed m x = printed_row x (row_at m x)
 abbrev pub rows_printed : List ℕ → ℕ → List ℕ
 rows_printed m v = each (row_printed m) (list_from (λ x. x) v 0)
 
--- "`items V`"
-unfoldable pub items_printed : ℕ → List ℕ
-items_printed v = 105 ∷ 116 ∷ 101 ∷ 109 ∷ 115 ∷ (spaced v ++ newline)
-
 -- "`items V`", and the lines
 unfoldable pub map_printed : List ℕ → ℕ → List ℕ
-map_printed m v = items_printed v ++ rows_printed m v
-
--- "`refused N`", and " at P" with the newline
-unfoldable pub refused_printed : ℕ → List ℕ
-refused_printed k = 114 ∷ 101 ∷ 102 ∷ 117 ∷ 115 ∷ 101 ∷ 100 ∷ spaced k
-
-unfoldable pub position_printed : ℕ → List ℕ
-position_printed p = 32 ∷ 97 ∷ 116 ∷ (spaced p ++ newline)
+map_printed m v = 105 ∷ 116 ∷ 101 ∷ 109 ∷ 115 ∷ (spaced v ++ (newline ++ rows_printed m v))
 
 -- a line: the unknown's number and its lowest same item in at most three digits each, " plate", the symbol in at most ten, each
 -- part in at most three, the spaces and the newline

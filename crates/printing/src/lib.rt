@@ -1,208 +1,135 @@
 // The map program's text: what it prints of a map's 352 bytes, of a clash and of a refusal, put into a buffer.
 #![tactic(auto)]
 
-ghost use Rattle.std.specs.Prelude.{◌≡◌, [], ◌∷◌, ◌+◌, ◌*◌, ◌≤◌, ◌<◌, length};
-ghost use Rattle.base.specs.Lists.{list_from};
+ghost use Rattle.std.specs.Prelude.{◌≡◌, ◌+◌, ◌≤◌, ◌<◌, length};
 ghost use Rattle.base.specs.Puts.{PutFrom};
-ghost use Rattle.paper.specs.Sizes.{most_unknowns, most_parts, number_limit};
-ghost use Rattle.paper.specs.Files.{each};
-ghost use Rattle.paper.specs.Programs.{digits, decimal, spaced, printed_look, printed_clash, printed_refusal};
-ghost use Rattle.layout.specs.Offsets.{map_bytes};
-ghost use Rattle.layout.specs.Fields.{byte_at};
-ghost use Rattle.layout.specs.Given.{Reads, byte_limit};
-ghost use Rattle.printing.specs.Prints.{symbol_at, part_count_at, part_at, plate_printed, look_at, row_printed, rows_printed, items_printed, map_printed, refused_printed, position_printed, most_printed};
+ghost use Rattle.paper.specs.Sizes.{most_unknowns, most_parts};
+ghost use Rattle.paper.specs.Programs.{decimal, spaced, printed_look, printed_clash, printed_refusal};
+ghost use Rattle.printing.specs.Prints.{symbol_at, part_count_at, plate_printed, look_at, row_printed, map_printed, most_printed};
+ghost use Rattle.printing.specs.Texts.{HasRoom, Adds};
 
+use itoa::Buffer;
+use layout::{Map, ROW_BYTES, SYMBOL_BYTES};
 use paper::sizes;
 
-// Twenty digits hold every number of 64 bits.
-const MOST_DIGITS: usize = 20;
-
-const NEWLINE: u8 = 10;
-
-const SPACE: u8 = 32;
-
-// A byte as a number.
-fn wide(x: u8) -> u64
-    ensures { Reads x byte_limit result }
-{
-    x as u64
+// The text so far is the buffer's first `end` bytes.
+#[derive(Drop)]
+struct Text<'a> {
+    buffer: &'a mut [u8],
+    end: usize,
 }
 
-// The byte at `at`.
-fn byte(map: &[u8], at: usize) -> u64
-    requires { at < length map.now }
-    ensures { Reads (byte_at map.now at) byte_limit result }
-{
-    wide(map[at])
+impl<'a> Text<'a> {
+    // No text yet.
+    fn new(buffer: &'a mut [u8]) -> Text<'a>
+        ensures same_reference { result.buffer.ghost_name ≡ buffer.entry.ghost_name }
+        ensures same_bytes { result.buffer.now ≡ buffer.old }
+        ensures empty { result.end ≡ 0 }
+    {
+        Text { buffer, end: 0 }
+    }
+
+    // A word.
+    fn word(&mut self, word: &[u8])
+        requires { HasRoom self.old word.now }
+        ensures { Adds self.old word.now self.new }
+    {
+        let end = self.end + word.len();
+        self.buffer[self.end..end].copy_from_slice(word);
+        self.end = end;
+    }
+
+    // A number in decimal digits. No `write!`, since no clause of it says that it cannot fail, as these calls cannot.
+    fn number(&mut self, n: u64)
+        requires { HasRoom self.old (decimal n) }
+        ensures { Adds self.old (decimal n) self.new }
+    {
+        let mut digits = Buffer::new();
+        self.word(digits.format(n).as_bytes());
+    }
+
+    // A number after a space.
+    fn spaced(&mut self, n: u64)
+        requires { HasRoom self.old (spaced n) }
+        ensures { Adds self.old (spaced n) self.new }
+    {
+        self.word(b" ");
+        self.number(n);
+    }
+
+    // The symbol and the parts of row x, which is a record's.
+    fn plate(&mut self, map: &Map, x: usize)
+        requires known { x < most_unknowns }
+        requires room { HasRoom self.old (plate_printed map.now x) }
+        ensures { Adds self.old (plate_printed map.now x) self.new }
+    {
+        self.spaced(u64::from(symbol(map, x)));
+        let first = ROW_BYTES * x + 3 + SYMBOL_BYTES;
+        for part in &map[first..first + part_count(map, x)] {
+            self.spaced(u64::from(*part));
+        }
+    }
+
+    // What row x says after its lowest item: open, or a plate.
+    fn look(&mut self, map: &Map, x: usize)
+        requires known { x < most_unknowns }
+        requires room { HasRoom self.old (printed_look (look_at map.now x)) }
+        ensures { Adds self.old (printed_look (look_at map.now x)) self.new }
+    {
+        let kind = map[ROW_BYTES * x + 1];
+        if kind == 0 {
+            self.word(b" open");
+        } else {
+            self.word(b" plate");
+            self.plate(map, x);
+        }
+    }
+
+    // The line of unknown x.
+    fn row(&mut self, map: &Map, x: usize)
+        requires known { x < most_unknowns }
+        requires room { HasRoom self.old (row_printed map.now x) }
+        ensures { Adds self.old (row_printed map.now x) self.new }
+    {
+        self.number(x as u64);
+        self.spaced(u64::from(map[ROW_BYTES * x]));
+        self.look(map, x);
+        self.word(b"\n");
+    }
 }
 
-// The symbol of row x: four bytes, low first.
-fn symbol(map: &[u8], x: usize) -> u64
-    requires { (length map.now ≡ map_bytes) × (x < most_unknowns) }
-    ensures { Reads (symbol_at map.now x) number_limit result }
+// The symbol of row x.
+fn symbol(map: &Map, x: usize) -> u32
+    requires { x < most_unknowns }
+    ensures { result ≡ symbol_at map.now x }
 {
-    let at = layout::ROW_BYTES * x;
-    let low = byte(map, at + 2) + 256 * byte(map, at + 3);
-    let high = byte(map, at + 4) + 256 * byte(map, at + 5);
-    low + 65536 * high
+    let at = ROW_BYTES * x;
+    u32::from_le_bytes([map[at + 2], map[at + 3], map[at + 4], map[at + 5]])
 }
 
 // The part count of row x, at most four.
-fn part_count(map: &[u8], x: usize) -> usize
-    requires { (length map.now ≡ map_bytes) × (x < most_unknowns) }
-    ensures { Reads (part_count_at map.now x) (most_parts + 1) result }
+fn part_count(map: &Map, x: usize) -> usize
+    requires { x < most_unknowns }
+    ensures same { result ≡ part_count_at map.now x }
+    ensures few { result ≤ most_parts }
 {
-    let count = byte(map, layout::ROW_BYTES * x + 2 + layout::SYMBOL_BYTES) as usize;
-    if count <= sizes::MOST_PARTS {
-        return count;
-    }
-    sizes::MOST_PARTS
-}
-
-// One byte.
-fn put_byte(out: &mut [u8], at: usize, b: u8) -> usize
-    requires { at + 1 ≤ length out.old }
-    ensures { PutFrom at (b ∷ []) out.old out.new result }
-{
-    out[at] = b;
-    at + 1
-}
-
-// A word's bytes.
-fn put_word(out: &mut [u8], at: usize, word: &[u8]) -> usize
-    requires { at + length word.now ≤ length out.old }
-    ensures { PutFrom at word.now out.old out.new result }
-{
-    let mut i: usize = 0;
-    while i < word.len() {
-        out[at + i] = word[i];
-        i += 1;
-    }
-    at + i
-}
-
-// A number in decimal digits, at most k of them: as the definition, by which no range is asked of n.
-fn put_digits(out: &mut [u8], at: usize, k: usize, n: u64) -> usize
-    requires { at + length (digits k n) ≤ length out.old }
-    ensures { PutFrom at (digits k n) out.old out.new result }
-{
-    if k == 0 {
-        return at;
-    }
-    if n < 10 {
-        return put_byte(out, at, (48 + n) as u8);
-    }
-    let last = put_digits(out, at, k - 1, n / 10);
-    put_byte(out, last, (48 + n % 10) as u8)
-}
-
-// A number in decimal digits.
-fn put_decimal(out: &mut [u8], at: usize, n: u64) -> usize
-    requires { at + length (decimal n) ≤ length out.old }
-    ensures { PutFrom at (decimal n) out.old out.new result }
-{
-    put_digits(out, at, MOST_DIGITS, n)
-}
-
-// A number after a space.
-fn put_spaced(out: &mut [u8], at: usize, n: u64) -> usize
-    requires { at + length (spaced n) ≤ length out.old }
-    ensures { PutFrom at (spaced n) out.old out.new result }
-{
-    let at_number = put_byte(out, at, SPACE);
-    put_decimal(out, at_number, n)
-}
-
-// The first `count` parts of row x, each after a space.
-fn put_parts(map: &[u8], x: usize, count: usize, out: &mut [u8], at: usize) -> usize
-    requires { (length map.now ≡ map_bytes) × (x < most_unknowns) × (count ≤ most_parts) × (at + length (each spaced (list_from (part_at map.now x) count 0)) ≤ length out.old) }
-    ensures { PutFrom at (each spaced (list_from (part_at map.now x) count 0)) out.old out.new result }
-{
-    let mut k: usize = 0;
-    let mut here = at;
-    while k < count {
-        let part = byte(map, layout::ROW_BYTES * x + 3 + layout::SYMBOL_BYTES + k);
-        here = put_spaced(out, here, part);
-        k += 1;
-    }
-    here
-}
-
-// The symbol and the parts of row x, which is a record's.
-fn put_plate(map: &[u8], x: usize, out: &mut [u8], at: usize) -> usize
-    requires { (length map.now ≡ map_bytes) × (x < most_unknowns) × (at + length (plate_printed map.now x) ≤ length out.old) }
-    ensures { PutFrom at (plate_printed map.now x) out.old out.new result }
-{
-    let number = symbol(map, x);
-    let count = part_count(map, x);
-    let at_parts = put_spaced(out, at, number);
-    put_parts(map, x, count, out, at_parts)
-}
-
-// What row x says after its lowest item: open, or a plate.
-fn put_look(map: &[u8], x: usize, out: &mut [u8], at: usize) -> usize
-    requires { (length map.now ≡ map_bytes) × (x < most_unknowns) × (at + length (printed_look (look_at map.now x)) ≤ length out.old) }
-    ensures { PutFrom at (printed_look (look_at map.now x)) out.old out.new result }
-{
-    let kind = byte(map, layout::ROW_BYTES * x + 1);
-    if kind == 0 {
-        return put_word(out, at, b" open");
-    }
-    let at_symbol = put_word(out, at, b" plate");
-    put_plate(map, x, out, at_symbol)
-}
-
-// The line of unknown x.
-fn put_row(map: &[u8], x: usize, out: &mut [u8], at: usize) -> usize
-    requires { (length map.now ≡ map_bytes) × (x < most_unknowns) × (at + length (row_printed map.now x) ≤ length out.old) }
-    ensures { PutFrom at (row_printed map.now x) out.old out.new result }
-{
-    let lowest = byte(map, layout::ROW_BYTES * x);
-    let at_lowest = put_decimal(out, at, x as u64);
-    let at_look = put_spaced(out, at_lowest, lowest);
-    let at_newline = put_look(map, x, out, at_look);
-    put_byte(out, at_newline, NEWLINE)
-}
-
-// The lines of the first v unknowns.
-fn put_rows(map: &[u8], v: usize, out: &mut [u8], at: usize) -> usize
-    requires { (length map.now ≡ map_bytes) × (v ≤ most_unknowns) × (at + length (rows_printed map.now v) ≤ length out.old) }
-    ensures { PutFrom at (rows_printed map.now v) out.old out.new result }
-{
-    let mut x: usize = 0;
-    let mut here = at;
-    while x < v {
-        here = put_row(map, x, out, here);
-        x += 1;
-    }
-    here
-}
-
-// The map's first line.
-fn put_items(out: &mut [u8], v: usize) -> usize
-    requires { length (items_printed v) ≤ length out.old }
-    ensures { PutFrom 0 (items_printed v) out.old out.new result }
-{
-    let at_count = put_word(out, 0, b"items");
-    let at_newline = put_spaced(out, at_count, v as u64);
-    put_byte(out, at_newline, NEWLINE)
-}
-
-// The map: its first line, and the unknowns' lines.
-fn put_map(map: &[u8], v: usize, out: &mut [u8]) -> usize
-    requires { (length map.now ≡ map_bytes) × (v ≤ most_unknowns) × (length (map_printed map.now v) ≤ length out.old) }
-    ensures { PutFrom 0 (map_printed map.now v) out.old out.new result }
-{
-    let at_rows = put_items(out, v);
-    put_rows(map, v, out, at_rows)
+    usize::from(map[ROW_BYTES * x + 2 + SYMBOL_BYTES]).min(sizes::MOST_PARTS)
 }
 
 // What is printed of a map with v unknowns, at the start of a buffer; gives its length.
-pub fn print_map(map: &[u8], v: usize, out: &mut [u8]) -> usize
-    requires { (length map.now ≡ map_bytes) × (v ≤ most_unknowns) × (most_printed ≤ length out.old) }
+pub fn print_map(map: &Map, v: usize, out: &mut [u8]) -> usize
+    requires known { v ≤ most_unknowns }
+    requires room { most_printed ≤ length out.old }
     ensures { PutFrom 0 (map_printed map.now v) out.old out.new result }
 {
-    put_map(map, v, out)
+    let mut text = Text::new(out);
+    text.word(b"items");
+    text.spaced(v as u64);
+    text.word(b"\n");
+    for x in 0..v {
+        text.row(map, x);
+    }
+    text.end
 }
 
 // What is printed of a run that clashed.
@@ -210,26 +137,9 @@ pub fn print_clash(out: &mut [u8]) -> usize
     requires { most_printed ≤ length out.old }
     ensures { PutFrom 0 printed_clash out.old out.new result }
 {
-    put_word(out, 0, b"clash\n")
-}
-
-// The refusal's number, after its word.
-fn put_refused(out: &mut [u8], number: usize) -> usize
-    requires { length (refused_printed number) ≤ length out.old }
-    ensures { PutFrom 0 (refused_printed number) out.old out.new result }
-{
-    let at_number = put_word(out, 0, b"refused");
-    put_spaced(out, at_number, number as u64)
-}
-
-// The position, after its word, and the line's end.
-fn put_position(out: &mut [u8], at: usize, position: usize) -> usize
-    requires { at + length (position_printed position) ≤ length out.old }
-    ensures { PutFrom at (position_printed position) out.old out.new result }
-{
-    let at_position = put_word(out, at, b" at");
-    let at_newline = put_spaced(out, at_position, position as u64);
-    put_byte(out, at_newline, NEWLINE)
+    let mut text = Text::new(out);
+    text.word(b"clash\n");
+    text.end
 }
 
 // What is printed of a file that is refused: the refusal's number and the position.
@@ -237,6 +147,11 @@ pub fn print_refusal(out: &mut [u8], number: usize, position: usize) -> usize
     requires { most_printed ≤ length out.old }
     ensures { PutFrom 0 (printed_refusal number position) out.old out.new result }
 {
-    let at_position = put_refused(out, number);
-    put_position(out, at_position, position)
+    let mut text = Text::new(out);
+    text.word(b"refused");
+    text.spaced(number as u64);
+    text.word(b" at");
+    text.spaced(position as u64);
+    text.word(b"\n");
+    text.end
 }

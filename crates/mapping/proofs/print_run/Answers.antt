@@ -7,7 +7,7 @@ pub returns-then-clash_byte-ne0 : goal.returns-then-clash_byte-ne0
 returns-then-clash_byte-ne0 c = search clash_printed
 
 pub print_map-requires : goal.print_map-requires
-print_map-requires c = (search rules, search unknowns_few, search rules)
+print_map-requires c = record { known = search unknowns_few; room = search rules }
 
 pub returns : goal.returns
 returns c = search (items_printed, c.shared_slice_known-1.given)

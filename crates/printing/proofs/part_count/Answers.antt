@@ -1,9 +1,9 @@
 -- `part_count` meets its contract: a greater byte counts as four.
-use Rattle.printing.proofs.Pieces.{few_parts, four_parts}
+use Rattle.std.proofs.lemmas.Grind.{common_steps}
+use native.Mathlib.Omega.{arith}
+use Rattle.printing.specs.Prints.{part_count_at}
 use Rattle.printing.proofs.part_count.Goals as goal
 
-pub returns-then-count-le-MOST_PARTS : goal.returns-then-count-le-MOST_PARTS
-returns-then-count-le-MOST_PARTS c = search few_parts
-
-pub returns : goal.returns
-returns c = search four_parts
+pub returns-clause-same : goal.returns-clause-same
+unfolding part_count_at
+returns-clause-same c = grind (arith, common_steps)

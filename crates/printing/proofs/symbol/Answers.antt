@@ -1,6 +1,8 @@
 -- `symbol` joins the four bytes of a symbol.
-use Rattle.printing.proofs.Pieces.{symbol_read}
+use native.Mathlib.Omega.{arith}
+use Rattle.printing.specs.Prints.{symbol_at}
 use Rattle.printing.proofs.symbol.Goals as goal
 
 pub returns : goal.returns
-returns c = search symbol_read
+unfolding symbol_at
+returns c = omega arith
