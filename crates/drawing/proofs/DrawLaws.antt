@@ -1,5 +1,5 @@
 -- Laws of the run that the program makes: a turn of its loop for each way out, with the bytes ready for the next step.
-use Rattle.std.proofs.Common.{◌≡◌, ℕ, zero, suc, ◌+◌, ◌-◌, ◌<◌, ◌≤◌, Bool, true, false, eqb, ltb, leb, List, length, sym, refl, ap, ◌∙◌, subst, true≢false, le_of_lt, mod-lt, arith, eq-eqb, ne_eqb}
+use Rattle.std.proofs.Common.{◌≡◌, ℕ, zero, suc, ◌+◌, ◌-◌, ◌<◌, ◌≤◌, Bool, true, false, not, eqb, ltb, leb, List, length, sym, refl, ap, ◌∙◌, subst, true≢false, le_of_lt, mod-lt, arith, eq-eqb, ne_eqb}
 use borrow.Author.Tests.{eqb-false}
 use Rattle.base.specs.Choice.{pick}
 use Rattle.base.specs.Lists.{Bytes}
@@ -17,7 +17,6 @@ use Rattle.rules.specs.Bytes.{Out, out, performed_bytes, taken_bytes}
 use Rattle.rules.proofs.Bridge.{Ready, ready_sound}
 use Rattle.rules.proofs.CallLaws.{sound_ready, ready_next}
 use Rattle.drawing.specs.Draws.{ready_from, taken_place, ended_bytes, after_taken, drawn_from, drawn_bytes}
-use Rattle.drawing.proofs.DrawnViews.{one_less}
 
 -- a place that is refused leaves the bytes
 abbrev Kept : List ℕ → Out → Type 0
@@ -55,18 +54,19 @@ module _ (d : List ℕ) (n x i : ℕ) (ei : i ≡ drawn_place x n) (en : n ≡ c
 
 -- the bytes d after some of the steps from d₀, with k steps left and the generator in state x
 pub record Running (d₀ : List ℕ) (k x : ℕ) (d : List ℕ) : Type 0 where
-  pub long : length d ≡ run_bytes
   pub ready : Ready d
   pub same : drawn_from k x d ≡ drawn_bytes d₀
 
-pub draw_start : (d : List ℕ) (k : ℕ) → k ≡ most_steps (byte_at d cabinets_at) (byte_at d unknowns_at) (byte_at d statements_at)
-    → length d ≡ run_bytes → sound_bytes d ≡ true → Bytes d → Running d k first_state d
+pub draw_start : (d : List ℕ) (n : ℕ) → n ≡ most_steps (byte_at d cabinets_at) (byte_at d unknowns_at) (byte_at d statements_at)
+    → length d ≡ run_bytes → sound_bytes d ≡ true → Bytes d → Running d (n - 0) first_state d
 unfolding drawn_bytes
-draw_start d k p l w y = record { long = l; ready = sound_ready d l w y; same = rw p refl }
+draw_start d n p l w y =
+    let s : n - 0 ≡ most_steps (byte_at d cabinets_at) (byte_at d unknowns_at) (byte_at d statements_at) = omega arith in
+    record { ready = sound_ready d l w y; same = ap (λ (k : ℕ). drawn_from k first_state d) s }
 
 -- whether a run has ended, by the clash byte and by the pending count
 module _ (d : List ℕ) (b : ℕ) (eb : b ≡ byte_at d clash_at) where
-  pub ended_clashed : (b ≡ 0 → ⊥) → true ≡ ended_bytes d
+  pub ended_clashed : (b ≡ 0 → ⊥) → not (eqb b 0) ≡ ended_bytes d
   unfolding ended_bytes
   ended_clashed n = rw (← eb, ne_eqb b 0 n) refl
 
@@ -96,49 +96,48 @@ module _ (d : List ℕ) (b : Bool) (eb : b ≡ ended_bytes d) where
       go true e = let n : count_of d ≡ 0 → ⊥ = eqb-false (count_of d) 0 e in omega arith
       go false e = absurd (true≢false e)
 
-  module _ (d₀ : List ℕ) (k x : ℕ) (h : Running d₀ k x d) (g : 0 < k) where
-    turn : pick b d (by_taken (k - 1) x d (taken_bytes d (taken_place d (next_state x)))) ≡ drawn_bytes d₀
+  module _ (d₀ : List ℕ) (n i x : ℕ) (h : Running d₀ (n - i) x d) (g : i < n) where
+    one_more : suc (n - (i + 1)) ≡ n - i
+    one_more = omega arith
+
+    turn : pick b d (by_taken (n - (i + 1)) x d (taken_bytes d (taken_place d (next_state x)))) ≡ drawn_bytes d₀
     turn =
-        ap (λ (c : Bool). pick c d (by_taken (k - 1) x d (taken_bytes d (taken_place d (next_state x))))) eb
-        ∙ sym (turned (k - 1) x d)
-        ∙ ap (λ (n : ℕ). drawn_from n x d) (sym (one_less k g))
+        ap (λ (c : Bool). pick c d (by_taken (n - (i + 1)) x d (taken_bytes d (taken_place d (next_state x))))) eb
+        ∙ sym (turned (n - (i + 1)) x d)
+        ∙ ap (λ (k : ℕ). drawn_from k x d) one_more
         ∙ h.same
 
     pub draw_ended : b ≡ true → d ≡ drawn_bytes d₀
-    draw_ended t = ap (λ (c : Bool). pick c d (by_taken (k - 1) x d (taken_bytes d (taken_place d (next_state x))))) (sym t) ∙ turn
+    draw_ended t = ap (λ (c : Bool). pick c d (by_taken (n - (i + 1)) x d (taken_bytes d (taken_place d (next_state x))))) (sym t) ∙ turn
 
     module _ (f : b ≡ false) (x' p : ℕ) (ex : x' ≡ next_state x) (ep : p ≡ taken_place d x') (m r : ℕ) (d' : List ℕ)
         (o : out m r d' ≡ taken_bytes d p) where
-      taken : by_taken (k - 1) x d (out m r d') ≡ drawn_bytes d₀
+      taken : by_taken (n - (i + 1)) x d (out m r d') ≡ drawn_bytes d₀
       taken =
-          ap (by_taken (k - 1) x d) (o ∙ ap (taken_bytes d) (ep ∙ ap (taken_place d) ex))
-          ∙ ap (λ (c : Bool). pick c d (by_taken (k - 1) x d (taken_bytes d (taken_place d (next_state x))))) (sym f)
+          ap (by_taken (n - (i + 1)) x d) (o ∙ ap (taken_bytes d) (ep ∙ ap (taken_place d) ex))
+          ∙ ap (λ (c : Bool). pick c d (by_taken (n - (i + 1)) x d (taken_bytes d (taken_place d (next_state x))))) (sym f)
           ∙ turn
 
       pub draw_refused : (m ≡ 0 → ⊥) → d' ≡ drawn_bytes d₀
       draw_refused w = go m w (subst (Kept d) (sym o) (refused_kept d p)) taken
         where
-          go : (l : ℕ) → (l ≡ 0 → ⊥) → Kept d (out l r d') → by_taken (k - 1) x d (out l r d') ≡ drawn_bytes d₀ → d' ≡ drawn_bytes d₀
+          go : (l : ℕ) → (l ≡ 0 → ⊥) → Kept d (out l r d') → by_taken (n - (i + 1)) x d (out l r d') ≡ drawn_bytes d₀ → d' ≡ drawn_bytes d₀
           go zero w q t = absurd (w refl)
           go (suc l) w q t = q ∙ t
 
-      pub draw_more : m ≡ 0 → length d' ≡ length d → Running d₀ (k - 1) x' d'
-      draw_more w l =
+      pub draw_more : m ≡ 0 → Running d₀ (n - (i + 1)) x' d'
+      draw_more w =
           record {
-            long = l ∙ h.long;
             ready = ready_next d d' p m r o h.ready;
-            same = ap (λ (a : ℕ). drawn_from (k - 1) a d') ex ∙ ap (λ (a : ℕ). by_taken (k - 1) x d (out a r d')) (sym w) ∙ taken;
+            same = ap (λ (a : ℕ). drawn_from (n - (i + 1)) a d') ex ∙ ap (λ (a : ℕ). by_taken (n - (i + 1)) x d (out a r d')) (sym w) ∙ taken;
           }
 
-module _ (d₀ : List ℕ) (k x : ℕ) (d : List ℕ) (h : Running d₀ k x d) where
-  pub running_long : length d ≡ run_bytes
-  running_long = h.long
-
+module _ (d₀ : List ℕ) (n i x : ℕ) (d : List ℕ) (h : Running d₀ (n - i) x d) where
   pub running_sound : sound_bytes d ≡ true
   running_sound = ready_sound d h.ready
 
-  pub draw_over : k ≤ 0 → d ≡ drawn_bytes d₀
+  pub draw_over : n ≤ i → d ≡ drawn_bytes d₀
   unfolding drawn_from
   draw_over z =
-      let e : k ≡ 0 = omega arith in
-      ap (λ (n : ℕ). drawn_from n x d) (sym e) ∙ h.same
+      let e : n - i ≡ 0 = omega arith in
+      ap (λ (k : ℕ). drawn_from k x d) (sym e) ∙ h.same

@@ -1,23 +1,13 @@
--- Laws of numbers that fit: a product of two numbers of 32 bits, and document 01's step count from three bytes.
-use Rattle.std.proofs.Common.{◌≡◌, ℕ, ◌+◌, ◌-◌, ◌*◌, ◌^◌, ◌<◌, ◌≤◌, refl, lt_of_le_of_lt, le_of_lt, mul-le-mul, mul-le-mul_left, mul-lt-mul_of_pos_right, arith, pow_pos, pow-add}
-use mathlib.Core.Path.{subst⁻¹}
+-- Laws of numbers that fit: document 01's step count from three bytes.
+use Rattle.std.proofs.Common.{◌≡◌, ℕ, ◌+◌, ◌-◌, ◌*◌, ◌^◌, ◌<◌, ◌≤◌, refl, mul-le-mul, arith}
 use Rattle.paper.specs.Counts.{pairs_of, most_steps}
-
--- the product of two numbers below 2 ^ k is below 2 ^ (k + k)
-pub product_below : (k : ℕ) {a b : ℕ} → a < 2 ^ k → b < 2 ^ k → a * b < 2 ^ (k + k)
-product_below k {a} {b} ha hb =
-    subst⁻¹ (λ (n : ℕ). a * b < n) (pow-add 2 k k)
-    (lt_of_le_of_lt (mul-le-mul_left a (le_of_lt hb)) (mul-lt-mul_of_pos_right ha (pow_pos k)))
 
 module _ (v : ℕ) (hv : v < 256) where
   square_small : v * (v - 1) ≤ 65025
   square_small = mul-le-mul {n₁ = v} {m₁ = v - 1} {n₂ = 255} {m₂ = 255} (omega arith) (omega arith)
 
-  pub square_fits : v * (v - 1) < 2 ^ 64
-  square_fits = omega (arith, square_small)
-
-  pub no_pairs : v ≡ 0 → 0 ≡ pairs_of v
-  no_pairs e = rw e refl
+  pub square_fits : (w : ℕ) → w ≡ v - 1 → v * w < 2 ^ 64
+  square_fits w e = rw e (omega (arith, square_small))
 
   module _ (s e p : ℕ) (hs : s < 256) (he : e < 256) (hp : p ≡ pairs_of v) where
     pairs_small : p ≤ 32512

@@ -5,5 +5,5 @@ use Rattle.drawing.proofs.running.ended.Goals as goal
 pub returns-then-clash_byte-ne0 : goal.returns-then-clash_byte-ne0
 returns-then-clash_byte-ne0 c = search ended_clashed
 
-pub returns : goal.returns
-returns c = search ended_counted
+pub returns-else-clash_byte-ne0 : goal.returns-else-clash_byte-ne0
+returns-else-clash_byte-ne0 c = search ended_counted
