@@ -6,10 +6,11 @@ use mathlib.Core.List.{List}
 use Prim.Native.Nat.{ℕ, suc, ◌+◌, ◌-◌, ◌*◌, ◌≤◌, ◌<◌}
 use native.Mathlib.Numerals.{add-one}
 use native.Mathlib.Omega.{arith}
-use borrow.Author.Tests.{eq-eqb, ne_eqb, eqb-true}
+use borrow.Author.Tests.{ne_eqb, eqb-true}
 use lib.Dec.{eqb}
 use lib.ListN.{replicate}
 use Rattle.std.specs.Prelude.{Option, Some, None, is_some}
+use Rattle.std.specs.Bool.{then_some}
 use Rattle.base.specs.Choice.{pick}
 use Rattle.base.specs.Lists.{list_from, Bytes}
 use Rattle.base.proofs.Tests.{snd_true}
@@ -87,11 +88,12 @@ module _ (d : List ℕ) (v x y a b : ℕ) (m m' : Table) (g : SoundRun d v) (ex 
       (lt_or_le b v))
 
   -- an open end agrees with itself alone
-  pub one_end : a < v → a ≡ b → Unknowns (ends_of d) x y m true m'
-  one_end h k = subst (λ (c : Bool). Unknowns (ends_of d) x y m c m') (eq-eqb a b k) (left_ends_open h)
-
-  pub two_ends : a < v → (a ≡ b → ⊥) → UnknownsApart (ends_of d) x y m
-  two_ends h k = record { after = m'; is = subst (λ (c : Bool). Unknowns (ends_of d) x y m c m') (ne_eqb a b k) (left_ends_open h) }
+  pub ends_compared : a < v → (after : Met) → m' ≡ met_of after.words → (o : Option Met) → o ≡ then_some (eqb a b) after → UnknownsAgree (ends_of d) x y m o
+  ends_compared h after p o q = subst (UnknownsAgree (ends_of d) x y m) (sym q) (by_test (eqb a b) (left_ends_open h))
+    where
+      by_test : (c : Bool) → Unknowns (ends_of d) x y m c m' → UnknownsAgree (ends_of d) x y m (then_some c after)
+      by_test true u = subst (Unknowns (ends_of d) x y m true) p u
+      by_test false u = record { after = m'; is = u }
 
   pub right_ends_open : v ≤ a → b < v → UnknownsApart (ends_of d) x y m
   right_ends_open h l = record { after = m'; is = rw next (right_open n new (record_x h) (open_y l)) }
@@ -180,10 +182,10 @@ none_met_answers d v x y s m u g b hx hy = met_pairs_answer_depth_V (ends_of d) 
     low : (z : ℕ) → LowEnd v (ends_of d z)
     low z = rw (unknowns_are d v g) (end_low (table_of d) (owner_of d) (table_ok d g.long (tests d v g) b) z)
 
-pub settled_answers : (d : List ℕ) (v x y : ℕ) (b : Bool) → b ≡ settled_in (met_of (replicate most_unknowns 0)) x y → b ≡ true
-    → SoundRun d v → Bytes d → x < v → y < v → b ≡ agree (ends_of d) v x y
-settled_answers d v x y b e t g f hx hy =
-    t ∙ none_met_answers d v x y true _ (settled_agrees (ends_of d) x y _ (sym e ∙ t)) g f hx hy
+pub one_agrees : (d : List ℕ) (v x y : ℕ) → x ≡ y → SoundRun d v → Bytes d → x < v → y < v → true ≡ agree (ends_of d) v x y
+one_agrees d v x y e g f hx hy =
+    let m : Table = met_of (replicate most_unknowns 0) in
+    none_met_answers d v x y true m (subst (λ (z : ℕ). Unknowns (ends_of d) x z m true m) e same) g f hx hy
 
 pub asked_answers : (d : List ℕ) (v x y : ℕ) (o : Option Met) → UnknownsAgree (ends_of d) x y (met_of (replicate most_unknowns 0)) o
     → SoundRun d v → Bytes d → x < v → y < v → is_some o ≡ agree (ends_of d) v x y

@@ -7,7 +7,7 @@ use mathlib.Core.Option.{none, some}
 use Prim.Native.Nat.{ℕ, ◌+◌, ◌-◌, ◌≤◌, ◌<◌}
 use native.Mathlib.Numerals.{add-one}
 use native.Mathlib.Omega.{arith}
-use borrow.Author.Tests.{lt-ltb, le-ltb, eq-eqb, ne_eqb}
+use borrow.Author.Tests.{lt-ltb, le-ltb, ne_eqb}
 use lib.ListN.{get_or, set, replicate, length-set, length-replicate}
 use lib.Seq.{get_or-set_same, get_or-set_other}
 use Rattle.base.specs.Choice.{pick}
@@ -36,56 +36,55 @@ module _ (d : List ℕ) (a : ℕ) where
   unfolding end_at
   record_end h = rw (le-ltb a (byte_at d unknowns_at) h)
 
--- the mark m of the unknown x
-module _ (d : List ℕ) (v x m : ℕ) (g : SoundRun d v) (hx : x < v) (r : Reads (byte_at d (owners_at + x)) byte_limit m) where
-  owned : (m ≡ 255 → ⊥) → owner_of d x ≡ some m
-  owned n =
-      owner_byte d x (omega (arith, g.few_unknowns))
-      ∙ ap owner_mark (sym r.same)
-      ∙ ap (λ (b : Bool). pick b none (some m)) (ne_eqb m 255 n)
+-- an unknown x
+module _ (d : List ℕ) (v x : ℕ) (g : SoundRun d v) (hx : x < v) where
+  mark_is : owner_of d x ≡ owner_mark (byte_at d (owners_at + x))
+  mark_is = owner_byte d x (omega (arith, g.few_unknowns))
 
-  unowned : m ≡ 255 → owner_of d x ≡ none
-  unowned e =
-      owner_byte d x (omega (arith, g.few_unknowns))
-      ∙ ap owner_mark (sym r.same)
-      ∙ ap (λ (b : Bool). pick b none (some m)) (eq-eqb m 255 e)
-
-  fall : Falls (table_of d) (owner_of d)
-  fall = owners_fall (table_of d) (owner_of d) (owner_ok_lem d g.long (tests d v g))
-
-  lesser : (m ≡ 255 → ⊥) → Lesser (table_of d) m x
-  lesser n = subst (OwnerOk (table_of d) x) (owned n) (owner_ok_lem d g.long (tests d v g) x)
-
-  mark_entry : (m ≡ 255 → ⊥) → m < byte_at d unknowns_at + byte_at d records_at
-  mark_entry n = omega (arith, (lesser n).entry, entries_are d)
-
-  pub no_mark : m ≡ 255 → EndsAt d x x
+  pub no_mark : byte_at d (owners_at + x) ≡ 255 → EndsAt d x x
   unfolding table_of
   no_mark e =
       let h : x < byte_at d unknowns_at = omega (arith, g.unknowns) in
-      record { entry = omega arith; is = end_open (table_of d) (owner_of d) x h (unowned e) ∙ sym (open_end d x h) }
+      let n : owner_of d x ≡ none = mark_is ∙ ap owner_mark e in
+      record { entry = omega arith; is = end_open (table_of d) (owner_of d) x h n ∙ sym (open_end d x h) }
 
-  pub record_mark : (m ≡ 255 → ⊥) → v ≤ m → EndsAt d x m
-  unfolding table_of
-  record_mark n h =
-      let l : byte_at d unknowns_at ≤ m = omega (arith, g.unknowns) in
-      record {
-        entry = mark_entry n;
-        is =
-            end_owner (table_of d) (owner_of d) fall x m (owned n)
-            ∙ end_record (table_of d) (owner_of d) m (is_record_lem (table_of d) m l)
-            ∙ ap at_record (record_byte d m l (mark_entry n))
-            ∙ sym (record_end d m l);
-      }
+  -- its mark m
+  module _ (m : ℕ) (r : Reads (byte_at d (owners_at + x)) 255 m) where
+    owned : owner_of d x ≡ some m
+    owned =
+        mark_is
+        ∙ ap owner_mark (sym r.same)
+        ∙ ap (λ (b : Bool). pick b none (some m)) (ne_eqb m 255 (λ e. let z : ⊥ = omega (arith, r.small) in z))
 
-  pub mark_followed : (a : ℕ) → EndsAt d m a → (m ≡ 255 → ⊥) → EndsAt d x a
-  mark_followed a e n = record { entry = e.entry; is = end_owner (table_of d) (owner_of d) fall x m (owned n) ∙ e.is }
+    fall : Falls (table_of d) (owner_of d)
+    fall = owners_fall (table_of d) (owner_of d) (owner_ok_lem d g.long (tests d v g))
 
-  pub mark_falls : (m ≡ 255 → ⊥) → m < v → m < x
-  unfolding table_of
-  mark_falls n l =
-      let e = g.unknowns in
-      omega (arith, fall x m (owned n), rank_unknown (table_of d) m (omega arith), rank_unknown (table_of d) x (omega arith))
+    mark_entry : m < byte_at d unknowns_at + byte_at d records_at
+    mark_entry =
+        let lesser : Lesser (table_of d) m x = subst (OwnerOk (table_of d) x) owned (owner_ok_lem d g.long (tests d v g) x) in
+        omega (arith, lesser.entry, entries_are d)
+
+    pub record_mark : v ≤ m → EndsAt d x m
+    unfolding table_of
+    record_mark h =
+        let l : byte_at d unknowns_at ≤ m = omega (arith, g.unknowns) in
+        record {
+          entry = mark_entry;
+          is =
+              end_owner (table_of d) (owner_of d) fall x m owned
+              ∙ end_record (table_of d) (owner_of d) m (is_record_lem (table_of d) m l)
+              ∙ ap at_record (record_byte d m l mark_entry)
+              ∙ sym (record_end d m l);
+        }
+
+    pub mark_followed : (a : ℕ) → EndsAt d m a → EndsAt d x a
+    mark_followed a e = record { entry = e.entry; is = end_owner (table_of d) (owner_of d) fall x m owned ∙ e.is }
+
+    pub mark_falls : m < v → m < x
+    unfolding table_of
+    mark_falls l =
+        let e = g.unknowns in
+        omega (arith, fall x m owned, rank_unknown (table_of d) m (omega arith), rank_unknown (table_of d) x (omega arith))
 
 -- the ends of all unknowns, one after the other
 pub no_end : (d : List ℕ) → AllEnd d 0 (replicate most_unknowns 0)

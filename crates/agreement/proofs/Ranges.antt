@@ -5,7 +5,7 @@ use mathlib.Core.List.{List}
 use Prim.Native.Nat.{ℕ, ◌-◌, ◌≤◌, ◌<◌}
 use native.Mathlib.Omega.{arith}
 use lib.ListN.{length}
-use Rattle.paper.specs.Sizes.{most_unknowns, most_records}
+use Rattle.paper.specs.Sizes.{most_unknowns}
 use Rattle.layout.specs.Offsets.{unknowns_at, records_at, run_bytes}
 use Rattle.layout.specs.Fields.{byte_at, part_count_of, part_of}
 use Rattle.layout.specs.Given.{Reads, byte_limit}
@@ -31,9 +31,6 @@ counted_record d v i n g h c =
 
 pub ended_record : (d : List ℕ) (v x a n : ℕ) → SoundRun d v → EndsAt d x a → v ≤ a → n ≡ part_count_of d (a - v) → OneRecord d v (a - v) n
 ended_record d v x a n g e h c = counted_record d v (a - v) n g (omega (arith, g.unknowns, e.entry)) c
-
-pub few_ended : (d : List ℕ) (v x a : ℕ) → SoundRun d v → EndsAt d x a → v ≤ a → a - v < most_records
-few_ended d v x a g e l = omega (arith, e.entry, g.unknowns, g.few_records)
 
 -- a part is an unknown
 pub part_unknown : (d : List ℕ) (v i n j p : ℕ) → OneRecord d v i n → j < n → Reads (part_of d i j) byte_limit p → p < v

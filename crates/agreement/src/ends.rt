@@ -8,9 +8,6 @@ ghost use Rattle.agreement.specs.Ends.{EndsAt, AllEnd};
 use layout::Run;
 use paper::sizes::MOST_UNKNOWNS;
 
-// The mark of an unknown that has no owner.
-const NOTHING: usize = layout::NOTHING as usize;
-
 // A sound run, how many unknowns it has, and the entry at which the owner marks of each unknown end.
 #[derive(Drop)]
 pub struct RunEnds<'a> {
@@ -27,10 +24,9 @@ fn end_of(run: &Run, v: usize, x: usize) -> usize
     requires { SoundRun run.now v × (x < v) }
     ensures { EndsAt run.now x result }
 {
-    let m = layout::owner_at(run, x);
-    if m == NOTHING {
+    let Some(m) = layout::owner_at(run, x) else {
         return x;
-    }
+    };
     if v <= m {
         return m;
     }

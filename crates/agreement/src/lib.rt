@@ -30,7 +30,7 @@ fn agree_unknowns(ends: &RunEnds, x: usize, y: usize, met: Met) -> Option<Met>
     let a = ends.end_of(x);
     let b = ends.end_of(y);
     if a < v {
-        return if a == b { Some(next) } else { None };
+        return (a == b).then_some(next);
     }
     if b < v {
         return None;
@@ -69,6 +69,6 @@ impl<'a> RunEnds<'a> {
         let none = Met {
             words: [0; MOST_UNKNOWNS],
         };
-        none.settled(x, y) || agree_unknowns(self, x, y, none).is_some()
+        x == y || agree_unknowns(self, x, y, none).is_some()
     }
 }

@@ -3,7 +3,7 @@
 use borrow.Author.Rules.{rules}
 use native.Mathlib.Omega.{arith}
 use Rattle.agreement.proofs.Ranges.{ended_record, part_unknown, part_few}
-use Rattle.agreement.proofs.AgreementLaws.{one_end, two_ends, right_ends_open, heads_apart, same_counted, parts_compared, new_pair_falls, none_compared, settled_compared, part_differs, one_more_compared, all_compared}
+use Rattle.agreement.proofs.AgreementLaws.{ends_compared, right_ends_open, heads_apart, same_counted, parts_compared, new_pair_falls, none_compared, settled_compared, part_differs, one_more_compared, all_compared}
 use Rattle.agreement.proofs.+agree_parts_agree_unknowns.Goals as goal
 use Rattle.agreement.proofs.+agree_parts_agree_unknowns.Goals.{agree_parts-then-not-settled+in_ok-next, agree_parts-else-not-settled}
 
@@ -26,11 +26,8 @@ agree_parts-loop-j-preserved t c =
 pub agree_parts-returns : goal.agree_parts-returns
 agree_parts-returns t c = search all_compared
 
-pub agree_unknowns-returns-then-a-b : goal.agree_unknowns-returns-then-a-b
-agree_unknowns-returns-then-a-b t c = search one_end
-
-pub agree_unknowns-returns-else-a-b : goal.agree_unknowns-returns-else-a-b
-agree_unknowns-returns-else-a-b t c = search two_ends
+pub agree_unknowns-returns-then-a-v : goal.agree_unknowns-returns-then-a-v
+agree_unknowns-returns-then-a-v t c = search ends_compared
 
 pub agree_unknowns-returns-then-b-v : goal.agree_unknowns-returns-then-b-v
 agree_unknowns-returns-then-b-v t c = search right_ends_open
