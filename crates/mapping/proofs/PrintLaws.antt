@@ -1,19 +1,22 @@
 -- Laws of the map program: one for each way out of `print`, and what its callees ask.
-use Rattle.std.proofs.Common.{Result, Ok, Err, IfOk}
+use Rattle.std.proofs.Common.{take_all, drop_at, length-take-le}
+use Rattle.std.proofs.lemmas.Slice.{take-put_mid_below}
+use lib.Seq.{take-add, take-append-le}
 use mathlib.Core.Path.{◌≡◌, refl, sym, ap, subst, ◌∙◌}
 use mathlib.Core.Logic.{inl, inr}
 use mathlib.Core.Bool.{true}
 use mathlib.Core.List.{List, ◌++◌}
 use mathlib.Core.Option.{none, some}
-use Prim.Native.Nat.{ℕ, ◌+◌, ◌≤◌}
+use Prim.Native.Nat.{ℕ, ◌+◌, ◌-◌, ◌≤◌, ◌<◌}
 use native.Mathlib.Omega.{arith}
 use borrow.Author.Tests.{eq-eqb, ne_eqb}
-use lib.ListN.{length, take, drop, length-append, length-take}
+use lib.ListN.{length, take, drop, length-append}
+use borrow.Rule.Slice.PartMut.{put_mid, post_of}
 use mir.Syntax.{w8}
 use mir.Val.{Fits}
 use Rattle.base.specs.Puts.{PutFrom}
 use Rattle.base.specs.Regions.{put}
-use Rattle.paper.specs.Sizes.{most_unknowns, longest_file}
+use Rattle.paper.specs.Sizes.{most_unknowns}
 use Rattle.paper.specs.Tables.{Table, TableOk}
 use Rattle.paper.specs.Files.{File, Read, got, fault, read_file}
 use Rattle.paper.specs.Reached.{FileOk}
@@ -36,7 +39,7 @@ use Rattle.promises.specs.FromFiles.{Accepted, AtEnd}
 use Rattle.promises.specs.Sentences.{ProgramEnds}
 use Rattle.promises.proofs.Reaching.{Viewed, viewed, file_ok}
 use Rattle.promises.proofs.Sentences.{sentences}
-use Rattle.mapping.specs.Runs.{Ran, TextOfInput}
+use Rattle.mapping.specs.Runs.{Ran}
 use Rattle.paper.proofs.NotZero.{refusal_not_zero}
 
 -- what loading an accepted file leaves
@@ -161,7 +164,7 @@ module _ (d : List ℕ) (long : length d ≡ run_bytes) (sound : sound_bytes d �
           em ∙ rw (eq-eqb (length d) run_bytes long, eq-eqb (length m0) map_bytes lm, sound, eq-eqb (byte_at d clash_at) 0 running, eq-eqb (count_of d) 0 nothing_pending) refl in
           cc
 
-      pub items_printed : ((i : ℕ) → Fits w8 (byte_at d i)) → (o o' : List ℕ) (n : ℕ) → PutFrom 0 (map_printed m1 v) o o' n
+      pub items_printed : ((i : ℕ) → byte_at d i < 256) → (o o' : List ℕ) (n : ℕ) → PutFrom 0 (map_printed m1 v) o o' n
           → PutFrom 0 (printed_run (table_of d) (run_of d) (clash_of d)) o o' n
       unfolding table_of
       items_printed b o o' n w =
@@ -170,17 +173,28 @@ module _ (d : List ℕ) (long : length d ≡ run_bytes) (sound : sound_bytes d �
           subst (λ (l : List ℕ). PutFrom 0 l o o' n) (sym (ap (printed_run (table_of d) (run_of d)) f))
           (map_printed_lem (table_of d) (run_of d) k map_is ev.same w)
 
--- a text that was put from 0 on ends within its buffer
-pub text_within : (bs d e : List ℕ) (n : ℕ) → PutFrom 0 bs d e n → n ≤ length e
-unfolding put
-text_within bs d e n w =
-    omega (arith, w.past, ap length w.bytes, length-append (take 0 d ++ bs) (drop (0 + length bs) d), length-append (take 0 d) bs)
+-- a text that was put from 0 on is the first bytes of its buffer
+module _ (bs d e : List ℕ) (n : ℕ) (w : PutFrom 0 bs d e n) where
+  put_first : e ≡ bs ++ drop (length bs) d
+  unfolding put
+  put_first = w.bytes ∙ (let z : 0 + length bs ≡ length bs = omega arith in rw z refl)
 
-pub text_of_input : (file : List ℕ) (k n : ℕ) → k ≤ longest_file + 4 → n ≡ length (printed (take k file)) → TextOfInput n
-text_of_input file k n h e = record { read = take k file; most = omega (arith, length-take k file); text = e }
+  pub text_within : n ≤ length e
+  text_within = omega (arith, w.past, ap length put_first, length-append bs (drop (length bs) d))
 
--- the same of a reply that may be an error instead
-pub text_of_reply : {E : Type 0} (r : Result ℕ E) (file : List ℕ) (k : ℕ) → k ≤ longest_file + 4 → IfOk r (λ n. n ≡ length (printed (take k file)))
-    → IfOk r TextOfInput
-text_of_reply (Ok n) file k h e = text_of_input file k n h e
-text_of_reply (Err x) file k h e = e
+  pub text_taken : take n e ≡ bs
+  text_taken =
+      ap (take n) put_first
+      ∙ take-append-le n bs (drop (length bs) d) (omega (arith, w.past))
+      ∙ take_all n bs (omega (arith, w.past))
+
+-- a read behind the bytes that are there: n of the bytes that it left follow them
+pub read_behind : (at n : ℕ) (xs ys : List ℕ) → at ≤ length xs → n ≤ length ys
+    → take (at + n) (put_mid at (length xs - at) xs ys) ≡ take at xs ++ take n ys
+read_behind at n xs ys h g =
+    let w : List ℕ = put_mid at (length xs - at) xs ys in
+    let rest : List ℕ = post_of at (length xs - at) xs in
+    take-add at n w
+    ∙ ap (λ (l : List ℕ). l ++ take n (drop at w)) (take-put_mid_below at (length xs - at) xs ys at (omega arith) h)
+    ∙ ap (λ (l : List ℕ). take at xs ++ take n l) (drop_at (take at xs) (ys ++ rest) at (length-take-le at xs h))
+    ∙ ap (λ (l : List ℕ). take at xs ++ l) (take-append-le n ys rest g)

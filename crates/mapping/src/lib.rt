@@ -3,20 +3,22 @@
 
 pub mod input; // input.rt: a reader's bytes into a buffer
 
-ghost use Rattle.std.specs.Prelude.{◌≤◌, length, ◌≡◌, true, IfOk};
+ghost use Rattle.std.specs.Prelude.{◌≤◌, length, ◌≡◌, true, IfOk, OnOk};
+ghost use Rattle.std.specs.Io.KnownBytes.{Appends};
 ghost use Rattle.base.specs.Puts.{PutFrom};
 ghost use Rattle.paper.specs.Programs.{printed_run, printed};
-ghost use Rattle.layout.specs.Offsets.{run_bytes};
 ghost use Rattle.layout.specs.Fields.{table_of, run_of, clash_of};
 ghost use Rattle.layout.specs.Soundness.{sound_bytes};
 ghost use Rattle.promises.specs.FromFiles.{AtEnd};
 ghost use Rattle.mapping.specs.Runs.{Ran, TextOfInput};
+ghost use Rattle.mapping.specs.Streams.{Prints};
 ghost use Rattle.printing.specs.Prints.{most_printed};
 
+use layout::Run;
 use paper::sizes;
 use statements::LoadReply;
 use std::io;
-use std::io::{Input, Print};
+use std::io::{Input, Print, Read, Write};
 
 // The last number of the longest file can start at 835, and five bytes may have to be seen to refuse it.
 const INPUT_BYTES: usize = sizes::LONGEST_FILE - 1 + sizes::MOST_GROUPS;
@@ -25,8 +27,10 @@ const INPUT_BYTES: usize = sizes::LONGEST_FILE - 1 + sizes::MOST_GROUPS;
 const TEXT_BYTES: usize = 2048;
 
 // What is printed of a run at its end, into `out`; gives its length.
-fn print_run(run: &[u8], out: &mut [u8]) -> usize
-    requires { (length run.now ≡ run_bytes) × (sound_bytes run.now ≡ true) × AtEnd run.now × (most_printed ≤ length out.old) }
+fn print_run(run: &Run, out: &mut [u8]) -> usize
+    requires sound { sound_bytes run.now ≡ true }
+    requires over { AtEnd run.now }
+    requires room { most_printed ≤ length out.old }
     ensures { PutFrom 0 (printed_run (table_of run.now) (run_of run.now) (clash_of run.now)) out.old out.new result }
 {
     if layout::clash_byte(run) != 0 {
@@ -39,8 +43,7 @@ fn print_run(run: &[u8], out: &mut [u8]) -> usize
 }
 
 // The file into the run, and the run to its end; gives the reply to loading.
-fn run_file(file: &[u8], run: &mut [u8]) -> LoadReply
-    requires { length run.old ≡ run_bytes }
+fn run_file(file: &[u8], run: &mut Run) -> LoadReply
     ensures { Ran file.now result.number result.position run.new }
 {
     let reply = statements::load(file, run);
@@ -65,14 +68,32 @@ fn print(file: &[u8], out: &mut [u8]) -> usize
     print_run(&run, out)
 }
 
+// Writes what is printed of a file; gives the text's length. An error of the writer is handed on: some of the text may be written.
+pub fn write_text<W: Write>(out: &mut W, file: &[u8]) -> io::Result<usize>
+    ensures length { IfOk result (λ n. n ≡ length (printed file.now)) }
+    ensures bytes { OnOk result (Appends (W.contents out.old) (W.contents out.new) (printed file.now)) }
+{
+    let mut text = [0u8; TEXT_BYTES];
+    let end = print(file, &mut text);
+    out.write_all(&text[..end])?;
+    Ok(end)
+}
+
 // Prints what is printed of a file; gives the text's length. An error of the output is handed on: some of the text may be written.
 pub fn print_file(out: &impl Print, file: &[u8]) -> io::Result<usize>
     ensures { IfOk result (λ n. n ≡ length (printed file.now)) }
 {
-    let mut text = [0u8; TEXT_BYTES];
-    let end = print(file, &mut text);
-    out.write_all(&text[0..end])?;
-    Ok(end)
+    write_text(&mut io::writer(out), file)
+}
+
+// The map program on any reader and writer: writes what is printed of the file that the reader gives; gives the text's length. An
+// error of either is handed on.
+pub fn run_program<R: Read, W: Write>(reader: &mut R, out: &mut W) -> io::Result<usize>
+    ensures { IfOk result (Prints (R.remaining reader.old) (R.remaining reader.new) (W.contents out.old) (W.contents out.new)) }
+{
+    let mut file = [0u8; INPUT_BYTES];
+    let n = input::read_full(reader, &mut file)?;
+    write_text(out, &file[..n])
 }
 
 // The map program: prints what is printed of the file on the input; gives the text's length. An error of the input or the output is
@@ -80,8 +101,5 @@ pub fn print_file(out: &impl Print, file: &[u8]) -> io::Result<usize>
 pub fn print_input(rt: &(impl Input + Print)) -> io::Result<usize>
     ensures { IfOk result TextOfInput }
 {
-    let mut file = [0u8; INPUT_BYTES];
-    let mut reader = rt.reader();
-    let n = input::read_full(&mut reader, &mut file)?;
-    print_file(rt, &file[0..n])
+    run_program(&mut rt.reader(), &mut io::writer(rt))
 }

@@ -7,7 +7,7 @@ pub returns-then-reply-ne0 : goal.returns-then-reply-ne0
 returns-then-reply-ne0 c = search refused_printed
 
 pub print_run-requires : goal.print_run-requires
-print_run-requires c = (search rules, search ran_sound, search ran_over, search rules)
+print_run-requires c = record { sound = search ran_sound; over = search ran_over; room = search rules }
 
 pub returns : goal.returns
 returns c = search run_printed

@@ -10,4 +10,4 @@ pub print_map-requires : goal.print_map-requires
 print_map-requires c = record { known = search unknowns_few; room = search rules }
 
 pub returns : goal.returns
-returns c = search (items_printed, c.shared_slice_known-1.given)
+returns c = search (items_printed, c.fits-run)
