@@ -2,7 +2,7 @@
 -- number up to another.
 use mathlib.Core.Path.{◌≡◌, refl, subst}
 use mathlib.Core.Logic.{⊎_elim}
-use mathlib.Core.Bool.{Bool, true, false, ◌&&◌}
+use mathlib.Core.Bool.{Bool, true, false, ◌&&◌, and_comm}
 use Prim.Native.Nat.{ℕ, zero, suc, ◌+◌, ◌-◌, ◌*◌, ◌≤◌, ◌<◌}
 use native.Mathlib.Nat.{mul-suc}
 use native.Mathlib.Numerals.{add-one}
@@ -47,9 +47,9 @@ module _ (f : ℕ → Bool) where
   unfolding all_below
   tested_none = refl
 
-  pub tested_next : (i : ℕ) (b clean : Bool) → b ≡ (f i && clean) → clean ≡ all_below i f → b ≡ all_below (i + 1) f
+  pub tested_next : (i : ℕ) (b clean : Bool) → b ≡ f i → clean ≡ all_below i f → (clean && b) ≡ all_below (i + 1) f
   unfolding all_below
-  tested_next i b clean e h = rw (add-one, ← h) e
+  tested_next i b clean e h = rw (add-one, ← h, ← e) (and_comm clean b)
 
   pub tested_all : (n i : ℕ) (clean : Bool) → clean ≡ all_below i f → i ≤ n → n ≤ i → clean ≡ all_below n f
   tested_all n i clean h l k = let e : i ≡ n = omega arith in rw e at h

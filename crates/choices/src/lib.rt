@@ -2,17 +2,25 @@
 // changing nothing.
 #![tactic(auto)]
 
-ghost use Rattle.std.specs.Prelude.{◌≡◌, ◌&&◌, ◌≤◌, ◌<◌, ltb, eqb, length, get_or};
+ghost use Rattle.std.specs.Prelude.{◌≡◌, ◌&&◌, ◌≤◌, ◌<◌, ltb, eqb, get_or};
 ghost use Rattle.paper.specs.Sizes.{most_cabinets, most_unknowns, most_records};
-ghost use Rattle.layout.specs.Offsets.{unknowns_at, run_bytes, memo_from};
+ghost use Rattle.layout.specs.Offsets.{unknowns_at, memo_from};
 ghost use Rattle.layout.specs.Fields.{byte_at};
 ghost use Rattle.layout.specs.Changes.{store_of};
 ghost use Rattle.choices.specs.Choices.{less_in, choice_by_mark, choice_by_records, choice_of};
 ghost use Rattle.choices.specs.Given.{StatementIn};
 
-use layout::Store;
+use layout::{Run, Store};
 
-// What a statement a = b does at its cabinet, by its store and memo. `Dereference` carries the entry that the store has.
+// A pending statement left = right at a cabinet.
+#[derive(Clone, Copy)]
+pub struct Statement {
+    pub cabinet: u8,
+    pub left: u8,
+    pub right: u8,
+}
+
+// What a statement does at its cabinet, by its store and memo. `Dereference` carries the entry that the store has.
 #[derive(Clone, Copy)]
 pub enum Choice {
     Waits,
@@ -29,69 +37,59 @@ pub enum Choice {
 fn less(v: usize, u: usize, x: usize) -> bool
     ensures { result ≡ less_in v u x }
 {
-    if x >= v {
-        return false;
-    }
-    if u >= v {
-        return true;
-    }
-    u < x
+    x < v && (u >= v || u < x)
 }
 
 // Whether the pair of x and u is in the memo of cabinet c. Looked up for two unknowns alone.
-fn met(run: &[u8], v: usize, c: usize, x: usize, u: usize) -> bool
-    requires { (length run.now ≡ run_bytes) × (v ≤ most_unknowns) × (c < most_cabinets) × (x < v) }
+fn met(run: &Run, v: usize, c: usize, x: usize, u: usize) -> bool
+    requires { (v ≤ most_unknowns) × (c < most_cabinets) × (x < v) }
     ensures { result ≡ (ltb u v && eqb (byte_at run.now (memo_from c x u)) 1) }
 {
-    if u < v {
-        return layout::pair_at(run, c, x, u) == 1;
-    }
-    false
+    u < v && layout::pair_at(run, c, x, u) == 1
 }
 
-// The choice for x = u, u less than x, by the mark of x in the store s of cabinet c.
-fn by_mark(run: &[u8], s: Store, v: usize, c: usize, x: usize, u: usize) -> Choice
-    requires { (length run.now ≡ run_bytes) × (v ≤ most_unknowns) × (c < most_cabinets) × (x < v) }
-    ensures { result ≡ choice_by_mark v run.now c x u (get_or s.marks x 0) }
+// The choice for x = u, u less than x, by the mark of x in the store of cabinet c.
+fn by_mark(run: &Run, store: Store, v: usize, c: usize, x: usize, u: usize) -> Choice
+    requires { (v ≤ most_unknowns) × (c < most_cabinets) × (x < v) }
+    ensures { result ≡ choice_by_mark v run.now c x u (get_or store.marks x 0) }
 {
-    let m = s.marks[x];
-    if m == layout::NOTHING {
-        return Choice::Initiate;
+    match store.marks[x] {
+        layout::NOTHING => Choice::Initiate,
+        layout::INITIATED => Choice::Waits,
+        _ if met(run, v, c, x, u) => Choice::Memo,
+        entry => Choice::Dereference(entry),
     }
-    if m == layout::INITIATED {
-        return Choice::Waits;
-    }
-    if met(run, v, c, x, u) {
-        return Choice::Memo;
-    }
-    Choice::Dereference(m)
 }
 
 // The choice for two records, by their numbers among the records.
-fn by_records(run: &[u8], i: usize, k: usize) -> Choice
-    requires { (length run.now ≡ run_bytes) × (i < most_records) × (k < most_records) }
+#[tactic(auto, using(layout::proofs::ViewedFields::head_byte))]
+fn by_records(run: &Run, i: usize, k: usize) -> Choice
+    requires { (i < most_records) × (k < most_records) }
     ensures { result ≡ choice_by_records run.now i k }
 {
     if layout::same_head(run, i, k) {
-        return Choice::Decompose;
+        Choice::Decompose
+    } else {
+        Choice::Conflict
     }
-    Choice::Conflict
 }
 
-// What the statement a = b does at cabinet c, whose store is s.
-pub fn choose(run: &[u8], s: Store, c: usize, a: usize, b: usize) -> Choice
-    requires { StatementIn run.now c a b × (s.marks ≡ store_of c run.now) }
-    ensures { result ≡ choice_of (byte_at run.now unknowns_at) run.now c a b }
+// What a statement does at its cabinet, whose store is given.
+#[tactic(auto, unfolding(crate::specs::Choices::choice_of))]
+pub fn choose(run: &Run, store: Store, s: Statement) -> Choice
+    requires { StatementIn run.now s.cabinet s.left s.right × (store.marks ≡ store_of s.cabinet run.now) }
+    ensures { result ≡ choice_of (byte_at run.now unknowns_at) run.now s.cabinet s.left s.right }
 {
     let v = layout::unknowns(run);
+    let a = s.left as usize;
+    let b = s.right as usize;
     if less(v, a, b) {
-        return Choice::Interchange;
+        Choice::Interchange
+    } else if less(v, b, a) {
+        by_mark(run, store, v, s.cabinet as usize, a, b)
+    } else if a < v {
+        Choice::Identify
+    } else {
+        by_records(run, a - v, b - v)
     }
-    if less(v, b, a) {
-        return by_mark(run, s, v, c, a, b);
-    }
-    if a < v {
-        return Choice::Identify;
-    }
-    by_records(run, a - v, b - v)
 }

@@ -2,20 +2,20 @@
 use mathlib.Core.Path.{◌≡◌, refl, sym, subst, ap, ◌∙◌}
 use mathlib.Core.Bool.{Bool, true, false, ◌&&◌}
 use mathlib.Core.List.{List, [], ◌∷◌}
-use Prim.Native.Nat.{ℕ, zero, suc, ◌-◌, ◌≤◌, ◌<◌}
+use Prim.Native.Nat.{ℕ, zero, suc, ◌+◌, ◌-◌, ◌≤◌, ◌<◌}
 use native.Mathlib.Omega.{arith}
 use lib.Dec.{ltb, eqb}
-use lib.ListN.{length, get_or, set}
-use borrow.Author.Tests.{ltb-false, eqb-true}
+use lib.ListN.{length, get_or}
+use borrow.Author.Tests.{ltb-false, eqb-true, le-leb}
 use Rattle.base.specs.Choice.{pick}
 use Rattle.base.proofs.Froms.{from_length}
 use Rattle.base.proofs.Tests.{snd_true}
-use Rattle.paper.specs.Sizes.{most_cabinets, most_unknowns, most_records, most_parts}
+use Rattle.paper.specs.Sizes.{most_cabinets, most_unknowns, most_records, most_parts, room}
 use Rattle.paper.specs.Rules.{part_statements, news_to}
 use Rattle.paper.specs.declared.Item.{Item}
 use Rattle.paper.specs.declared.Item.TheVariants.{Statement, Ask}
 use Rattle.layout.specs.Offsets.{unknowns_at, memo_from}
-use Rattle.layout.specs.Fields.{byte_at, symbol_of, part_count_of, part_of, parts_from}
+use Rattle.layout.specs.Fields.{byte_at, symbol_of, part_count_of, part_of, parts_from, count_of}
 use Rattle.layout.specs.Changes.{store_of, with_store, removed_at, appended_all}
 use Rattle.layout.specs.Given.{Reads, byte_limit}
 use Rattle.choices.specs.declared.Choice.{Choice}
@@ -23,12 +23,12 @@ use Rattle.choices.specs.declared.Choice.TheVariants.{Waits, Interchange, Memo, 
 use Rattle.choices.specs.Choices.{less_in, choice_by_mark, choice_by_records, choice_of}
 use Rattle.choices.specs.Given.{StatementIn}
 use Rattle.choices.proofs.ChoiceLaws.{greater_unknown, level_record}
-use Rattle.effects.specs.Changes.{Change, nothing, mark, pair, clash, applied, Left, left}
+use Rattle.effects.specs.Changes.{Change, nothing, mark, pair, clash, Left, left}
 use Rattle.effects.specs.Given.{Fits}
-use Rattle.effects.proofs.StoreLaws.{Local, store_back, put_back}
+use Rattle.effects.proofs.StoreLaws.{Local, put_back}
 use Rattle.rules.specs.Plans.{plan, parts_of, plan_of_choice}
-use Rattle.rules.specs.Bytes.{Out, out}
-use Rattle.rules.specs.Given.{product_count, Done, done, done_bytes, carried_bytes}
+use Rattle.rules.specs.Bytes.{Out, out, performed_bytes}
+use Rattle.rules.specs.Given.{product_count, Done, done, refused, done_bytes}
 
 -- what a choice says of the sides a and b
 abbrev Sides : List ℕ → ℕ → ℕ → Choice → Type 0
@@ -116,49 +116,18 @@ few_parts d c a b i n r s h = omega (arith, r.same, s.parts i h)
 pub initiate_fits : (d : List ℕ) (a p : ℕ) (q : Choice) → q ≡ Initiate → Fits d p (product_count d a q) → Fits d p 2
 initiate_fits d a p q f h = rw f at h
 
--- what each rule gives back and leaves is what its plan says
+-- what a decomposition gives back and leaves is what its plan says
 abbrev numbered : ℕ → Left → Done
 numbered k (left ms e) = done k ms e
 
-module _ (marks ms d e : List ℕ) (p c a b : ℕ) (q : Choice) where
-  pub did_wait : q ≡ Waits → done 0 marks d ≡ done_bytes marks d p (plan_of_choice d c a b q)
-  did_wait f = rw f
-
-  pub did_interchange : q ≡ Interchange → left ms e ≡ left marks (appended_all (Statement c b a ∷ []) (removed_at p d))
-      → done 1 ms e ≡ done_bytes marks d p (plan_of_choice d c a b q)
-  did_interchange f h = rw f (ap (numbered 1) h)
-
-  pub did_memo : q ≡ Memo → left ms e ≡ left marks (removed_at p d) → done 2 ms e ≡ done_bytes marks d p (plan_of_choice d c a b q)
-  did_memo f h = rw f (ap (numbered 2) h)
-
-  pub did_dereference : (m : ℕ) → q ≡ Dereference m
-      → left ms e ≡ left marks (appended_all (Statement c m b ∷ []) (removed_at p (applied (pick (ltb b (byte_at d unknowns_at)) (pair c a b) nothing) d)))
-      → done 3 ms e ≡ done_bytes marks d p (plan_of_choice d c a b q)
-  did_dereference m f h = rw f (go (ltb b (byte_at d unknowns_at)) h)
-    where
-      go : (t : Bool) → left ms e ≡ left marks (appended_all (Statement c m b ∷ []) (removed_at p (applied (pick t (pair c a b) nothing) d)))
-          → done 3 ms e ≡ done_bytes marks d p (plan 3 (Statement c m b ∷ []) (pick t (pair c a b) nothing))
-      go true g = ap (numbered 3) g
-      go false g = ap (numbered 3) g
-
-  pub did_identify : q ≡ Identify → left ms e ≡ left marks (removed_at p d) → done 4 ms e ≡ done_bytes marks d p (plan_of_choice d c a b q)
-  did_identify f h = rw f (ap (numbered 4) h)
-
-  pub did_conflict : q ≡ Conflict → left ms e ≡ left marks (removed_at p (applied (clash c) d)) → done 5 ms e ≡ done_bytes marks d p (plan_of_choice d c a b q)
-  did_conflict f h = rw f (ap (numbered 5) h)
-
-  pub did_decompose : (w n : ℕ) → q ≡ choice_of (byte_at d unknowns_at) d c a b → q ≡ Decompose → Reads (byte_at d unknowns_at) byte_limit w
-      → Reads (part_count_of d (a - w)) byte_limit n
-      → left ms e ≡ left marks (appended_all (part_statements c (parts_from d (a - w) n 0) (parts_from d (b - w) n 0)) (removed_at p d))
-      → done 6 ms e ≡ done_bytes marks d p (plan_of_choice d c a b q)
-  did_decompose w n k f r s h =
-      let x : n ≡ part_count_of d (a - byte_at d unknowns_at) = s.same ∙ rw r.same refl in
-      let y : n ≡ part_count_of d (b - byte_at d unknowns_at) = x ∙ same_counts d c a b q k f in
-      rw (f, ← x, ← y, ← r.same) (ap (numbered 6) h)
-
-  pub did_initiate : q ≡ Initiate → left ms e ≡ left (set marks a 254) (appended_all (Ask c a b ∷ Statement c a b ∷ []) (removed_at p d))
-      → done 7 ms e ≡ done_bytes marks d p (plan_of_choice d c a b q)
-  did_initiate f h = rw f (ap (numbered 7) h)
+pub did_decompose : (marks ms d e : List ℕ) (p c a b : ℕ) (q : Choice) (w n : ℕ) → q ≡ choice_of (byte_at d unknowns_at) d c a b → q ≡ Decompose → Reads (byte_at d unknowns_at) byte_limit w
+    → Reads (part_count_of d (a - w)) byte_limit n
+    → left ms e ≡ left marks (appended_all (part_statements c (parts_from d (a - w) n 0) (parts_from d (b - w) n 0)) (removed_at p d))
+    → done 6 ms e ≡ done_bytes marks d p (plan_of_choice d c a b q)
+did_decompose marks ms d e p c a b q w n k f r s h =
+    let x : n ≡ part_count_of d (a - byte_at d unknowns_at) = s.same ∙ rw r.same refl in
+    let y : n ≡ part_count_of d (b - byte_at d unknowns_at) = x ∙ same_counts d c a b q k f in
+    rw (f, ← x, ← y, ← r.same) (ap (numbered 6) h)
 
 -- a plan has as many products as are counted
 part_statements_lem : (c : ℕ) (ps qs : List ℕ) → length ps ≡ length qs → length (part_statements c ps qs) ≡ length ps
@@ -179,14 +148,15 @@ decompose_count d c a b e =
 module _ (d : List ℕ) (p c a b : ℕ) (hc : c < most_cabinets) where
   abbrev saved : Done → Out
   saved (done n ms e) = out 0 n (with_store c ms e)
+  saved (refused n e) = out n 0 e
 
   saved_plan : (k : ℕ) (js : List Item) (ch : Change) → Local c ch → Fits d p (length js)
-      → saved (done_bytes (store_of c d) d p (plan k js ch)) ≡ carried_bytes d p (plan k js ch)
-  saved_plan k js ch h f = ap (out 0 k) (put_back c hc d p js f ch h)
+      → saved (done_bytes (store_of c d) d p (plan k js ch)) ≡ performed_bytes d p (plan k js ch)
+  saved_plan k js ch h f = rw (le-leb (count_of d - 1 + length js) room f.enough) (ap (out 0 k) (put_back c hc d p js f ch h))
 
   saved_choice : (q : Choice) → q ≡ choice_of (byte_at d unknowns_at) d c a b → Fits d p (product_count d a q)
-      → saved (done_bytes (store_of c d) d p (plan_of_choice d c a b q)) ≡ carried_bytes d p (plan_of_choice d c a b q)
-  saved_choice Waits e f = ap (out 0 0) (store_back c hc d f.long)
+      → saved (done_bytes (store_of c d) d p (plan_of_choice d c a b q)) ≡ performed_bytes d p (plan_of_choice d c a b q)
+  saved_choice Waits e f = refl
   saved_choice Interchange e f = saved_plan 1 (Statement c b a ∷ []) nothing tt f
   saved_choice Memo e f = saved_plan 2 [] nothing tt f
   saved_choice (Dereference m) e f = saved_plan 3 (Statement c m b ∷ []) (pick (ltb b (byte_at d unknowns_at)) (pair c a b) nothing) (local (ltb b (byte_at d unknowns_at))) f
@@ -200,11 +170,18 @@ module _ (d : List ℕ) (p c a b : ℕ) (hc : c < most_cabinets) where
       saved_plan 6 (part_statements c (parts_of d a) (parts_of d b)) nothing tt (subst (Fits d p) (sym (decompose_count d c a b e)) f)
   saved_choice Initiate e f = saved_plan 7 (Ask c a b ∷ Statement c a b ∷ []) (mark c a 254) refl f
 
-pub carried : (d : List ℕ) (p c a b : ℕ) (q : Choice) (n : ℕ) (marks ms e e' : List ℕ) → StatementIn d c a b → Fits d p (product_count d a q)
-    → q ≡ choice_of (byte_at d unknowns_at) d c a b → marks ≡ store_of c d → done n ms e ≡ done_bytes marks d p (plan_of_choice d c a b q) → e' ≡ with_store c ms e
-    → out 0 n e' ≡ carried_bytes d p (plan_of_choice d c a b q)
-carried d p c a b q n marks ms e e' s f k m h g =
-    ap (out 0 n) g ∙ ap (saved d p c a b s.cabinet) (h ∙ ap (λ (l : List ℕ). done_bytes l d p (plan_of_choice d c a b q)) m) ∙ saved_choice d p c a b s.cabinet q k f
+module _ (d : List ℕ) (p c a b : ℕ) (q : Choice) (marks : List ℕ) (s : StatementIn d c a b) (f : Fits d p (product_count d a q))
+    (k : q ≡ choice_of (byte_at d unknowns_at) d c a b) (m : marks ≡ store_of c d) where
+  performed : (r : Done) → r ≡ done_bytes marks d p (plan_of_choice d c a b q)
+      → saved d p c a b s.cabinet r ≡ performed_bytes d p (plan_of_choice d c a b (choice_of (byte_at d unknowns_at) d c a b))
+  performed r h =
+      ap (saved d p c a b s.cabinet) (h ∙ ap (λ (l : List ℕ). done_bytes l d p (plan_of_choice d c a b q)) m)
+      ∙ saved_choice d p c a b s.cabinet q k f
+      ∙ ap (λ (r : Choice). performed_bytes d p (plan_of_choice d c a b r)) k
+
+  pub carried : (n : ℕ) (ms e e' : List ℕ) → done n ms e ≡ done_bytes marks d p (plan_of_choice d c a b q) → e' ≡ with_store c ms e
+      → out 0 n e' ≡ performed_bytes d p (plan_of_choice d c a b (choice_of (byte_at d unknowns_at) d c a b))
+  carried n ms e e' h g = ap (out 0 n) g ∙ performed (done n ms e) h
 
 pub news_count : (k c x u : ℕ) → length (news_to c k x u) ≡ k
 news_count zero c x u = refl

@@ -7,8 +7,9 @@ use lib.Dec.{ltb, leb, eqb}
 use lib.ListN.{set}
 use borrow.Author.Tests.{ltb-true, ltb-false, lt-ltb, le-ltb, le-leb, lt-leb, eq-eqb, ne_eqb}
 use Rattle.base.specs.Choice.{pick}
+use Rattle.base.proofs.Tests.{not_both}
 use Rattle.paper.specs.Sizes.{most_cabinets, room}
-use Rattle.paper.specs.Refusals.{no_such_place, still_waits, has_clashed, no_room}
+use Rattle.paper.specs.Refusals.{no_such_place, has_clashed, no_room}
 use Rattle.paper.specs.Rules.{news_to}
 use Rattle.paper.specs.declared.Item.{Item}
 use Rattle.paper.specs.declared.Item.TheVariants.{Statement, Ask, News}
@@ -23,8 +24,8 @@ use Rattle.effects.specs.Changes.{nothing, mark, owner, applied, Left, left}
 use Rattle.effects.specs.Given.{Fits}
 use Rattle.effects.proofs.StoreLaws.{put_back}
 use Rattle.rules.specs.Plans.{plan, plan_of_choice, plan_of_ask, plan_of}
-use Rattle.rules.specs.Bytes.{out, performed_bytes, taken_bytes}
-use Rattle.rules.specs.Given.{product_count, full_for, carried_bytes, waits_in, waits_bytes}
+use Rattle.rules.specs.Bytes.{Out, out, performed_bytes, taken_bytes}
+use Rattle.rules.specs.Given.{product_count, full_for, waits_in, waits_bytes}
 use Rattle.rules.proofs.CarryLaws.{decompose_count, news_count}
 
 -- the room, with the count as read
@@ -44,65 +45,32 @@ module _ (d : List ℕ) (p n : ℕ) (t : Bool) (e : t ≡ full_for n d) where
   pub room_fits : t ≡ false → Fits d p 0 → Fits d p n
   room_fits f h = record { long = h.long; count = h.count; place = h.place; enough = enough f }
 
--- a choice that does not wait
-abbrev Moves : Choice → Type 0
-Moves q = q ≡ Waits → ⊥
-
-moves_not : (d : List ℕ) (c a b : ℕ) (q : Choice) → Moves q → false ≡ waits_in (plan_of_choice d c a b q)
-moves_not d c a b Waits w = absurd (w refl)
-moves_not d c a b Interchange w = refl
-moves_not d c a b Memo w = refl
-moves_not d c a b (Dereference m) w = refl
-moves_not d c a b Identify w = refl
-moves_not d c a b Conflict w = refl
-moves_not d c a b Decompose w = refl
-moves_not d c a b Initiate w = refl
-
--- what is performed of a choice that does not wait
-performed_moves : (d : List ℕ) (p c a b : ℕ) (q : Choice) → Moves q → q ≡ choice_of (byte_at d unknowns_at) d c a b
-    → performed_bytes d p (plan_of_choice d c a b q)
-    ≡ pick (leb (count_of d - 1 + product_count d a q) room) (carried_bytes d p (plan_of_choice d c a b q)) (out no_room 0 d)
-performed_moves d p c a b Waits w e = absurd (w refl)
-performed_moves d p c a b Interchange w e = refl
-performed_moves d p c a b Memo w e = refl
-performed_moves d p c a b (Dereference m) w e = refl
-performed_moves d p c a b Identify w e = refl
-performed_moves d p c a b Conflict w e = refl
-performed_moves d p c a b Decompose w e = rw (decompose_count d c a b e)
-performed_moves d p c a b Initiate w e = refl
-
--- a statement
-module _ (d : List ℕ) (p c a b : ℕ) (q : Choice) (e : q ≡ choice_of (byte_at d unknowns_at) d c a b) where
-  pub waits_yes : q ≡ Waits → true ≡ waits_in (plan_of_choice d c a b (choice_of (byte_at d unknowns_at) d c a b))
-  waits_yes f = rw (← e, f)
-
-  pub waits_no : Moves q → false ≡ waits_in (plan_of_choice d c a b (choice_of (byte_at d unknowns_at) d c a b))
-  waits_no w = rw (← e) (moves_not d c a b q w)
-
-  pub statement_waits : q ≡ Waits → out still_waits 0 d ≡ performed_bytes d p (plan_of_choice d c a b (choice_of (byte_at d unknowns_at) d c a b))
-  statement_waits f = rw (← e, f)
-
-  module _ (w : Moves q) (n : ℕ) (r : Reads (product_count d a q) byte_limit n) (t : Bool) (h : t ≡ full_for n d) where
-    pub statement_full : t ≡ true → out no_room 0 d ≡ performed_bytes d p (plan_of_choice d c a b (choice_of (byte_at d unknowns_at) d c a b))
-    statement_full f = rw (← e) (sym (performed_moves d p c a b q w e ∙ rw (← r.same, too_many d p n t h f) refl))
-
-    pub statement_fits : t ≡ false → Fits d p 0 → Fits d p (product_count d a q)
-    statement_fits f g = subst (Fits d p) r.same (room_fits d p n t h f g)
-
-    pub statement_moves : (k : ℕ) (d' : List ℕ) → t ≡ false → out 0 k d' ≡ carried_bytes d p (plan_of_choice d c a b q)
-        → out 0 k d' ≡ performed_bytes d p (plan_of_choice d c a b (choice_of (byte_at d unknowns_at) d c a b))
-    statement_moves k d' f g =
-        let l : leb (count_of d - 1 + n) room ≡ true = le-leb (count_of d - 1 + n) room (enough d p n t h f) in
-        rw (← e) (g ∙ sym (performed_moves d p c a b q w e ∙ rw (← r.same, l) refl))
-
--- an ask and a news
 none_more : (d : List ℕ) (p : ℕ) → Fits d p 0 → leb (count_of d - 1 + 0) room ≡ true
 none_more d p h = le-leb (count_of d - 1 + 0) room h.enough
 
-module _ (d : List ℕ) (p x u o : ℕ) (r : Reads (byte_at d (owners_at + x)) byte_limit o) where
-  pub ask_lost : (d' : List ℕ) → (o ≡ 255 → ⊥) → Fits d p 0 → d' ≡ removed_at p d → out 0 9 d' ≡ performed_bytes d p (plan_of_ask d x u (byte_at d (owners_at + x)))
-  ask_lost d' h g e = rw (← r.same, ne_eqb o 255 h, none_more d p g, e)
+-- what is performed of a choice that has more products than there is room for; one that waits has none
+performed_full : (d : List ℕ) (p c a b : ℕ) (q : Choice) → q ≡ choice_of (byte_at d unknowns_at) d c a b → Fits d p 0
+    → leb (count_of d - 1 + product_count d a q) room ≡ false → out no_room 0 d ≡ performed_bytes d p (plan_of_choice d c a b q)
+performed_full d p c a b Waits e f h = absurd (let z : ⊥ = not_both _ (none_more d p f) h in z)
+performed_full d p c a b Interchange e f h = rw h
+performed_full d p c a b Memo e f h = rw h
+performed_full d p c a b (Dereference m) e f h = rw h
+performed_full d p c a b Identify e f h = rw h
+performed_full d p c a b Conflict e f h = rw h
+performed_full d p c a b Decompose e f h = rw (decompose_count d c a b e, h)
+performed_full d p c a b Initiate e f h = rw h
 
+-- a statement
+module _ (d : List ℕ) (p c a b : ℕ) (q : Choice) (e : q ≡ choice_of (byte_at d unknowns_at) d c a b) where
+  module _ (n : ℕ) (r : Reads (product_count d a q) byte_limit n) (t : Bool) (h : t ≡ full_for n d) (g : Fits d p 0) where
+    pub statement_full : t ≡ true → out no_room 0 d ≡ performed_bytes d p (plan_of_choice d c a b (choice_of (byte_at d unknowns_at) d c a b))
+    statement_full f = rw (← e) (performed_full d p c a b q e g (rw (← r.same) (too_many d p n t h f)))
+
+    pub statement_fits : t ≡ false → Fits d p (product_count d a q)
+    statement_fits f = subst (Fits d p) r.same (room_fits d p n t h f g)
+
+-- an ask and a news
+module _ (d : List ℕ) (p x u o : ℕ) (r : Reads (byte_at d (owners_at + x)) byte_limit o) where
   module _ (h : o ≡ 255) (s : ℕ) (rs : Reads (byte_at d cabinets_at) byte_limit s) (t : Bool) (e : t ≡ full_for s d) where
     pub ask_full : t ≡ true → out no_room 0 d ≡ performed_bytes d p (plan_of_ask d x u (byte_at d (owners_at + x)))
     ask_full f = rw (← r.same, eq-eqb o 255 h, ← rs.same, news_count s 0 x u, too_many d p s t e f)
@@ -139,20 +107,20 @@ module _ (d : List ℕ) (p k : ℕ) (r : Reads (byte_at d clash_at) byte_limit k
       unfolding taken_bytes
       taken = rw (← r.same, eq-eqb k 0 h, ← s.same, lt-ltb p n g, ← e)
 
-      pub taken_statement : (c a b m l : ℕ) (d' : List ℕ) → j ≡ Statement c a b
-          → out m l d' ≡ performed_bytes d p (plan_of_choice d c a b (choice_of (byte_at d unknowns_at) d c a b)) → out m l d' ≡ taken_bytes d p
+      pub taken_statement : (c a b : ℕ) (o : Out) → j ≡ Statement c a b
+          → o ≡ performed_bytes d p (plan_of_choice d c a b (choice_of (byte_at d unknowns_at) d c a b)) → o ≡ taken_bytes d p
       unfolding plan_of
-      taken_statement c a b m l d' f o = o ∙ sym (taken ∙ rw f refl)
+      taken_statement c a b o f h = h ∙ sym (taken ∙ rw f refl)
 
-      pub taken_ask : (c x u m l : ℕ) (d' : List ℕ) → j ≡ Ask c x u → out m l d' ≡ performed_bytes d p (plan_of_ask d x u (byte_at d (owners_at + x)))
-          → out m l d' ≡ taken_bytes d p
+      pub taken_ask : (c x u : ℕ) (o : Out) → j ≡ Ask c x u → o ≡ performed_bytes d p (plan_of_ask d x u (byte_at d (owners_at + x)))
+          → o ≡ taken_bytes d p
       unfolding plan_of
-      taken_ask c x u m l d' f o = o ∙ sym (taken ∙ rw f refl)
+      taken_ask c x u o f h = h ∙ sym (taken ∙ rw f refl)
 
-      pub taken_news : (c x u m l : ℕ) (d' : List ℕ) → j ≡ News c x u → out m l d' ≡ performed_bytes d p (plan 10 [] (mark c x u))
-          → out m l d' ≡ taken_bytes d p
+      pub taken_news : (c x u : ℕ) (o : Out) → j ≡ News c x u → o ≡ performed_bytes d p (plan 10 [] (mark c x u))
+          → o ≡ taken_bytes d p
       unfolding plan_of
-      taken_news c x u m l d' f o = o ∙ sym (taken ∙ rw f refl)
+      taken_news c x u o f h = h ∙ sym (taken ∙ rw f refl)
 
 -- whether an item waits
 module _ (d : List ℕ) (p : ℕ) (j : Item) (e : j ≡ item_at d p) where

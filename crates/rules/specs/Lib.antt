@@ -1,3 +1,5 @@
 pub mod Plans
 pub mod Bytes
+pub mod Numbers
+pub mod Results
 pub mod Given

@@ -2,7 +2,9 @@
 #![tactic(auto)]
 
 mod calls; // calls.rt: a step, and a list of steps
+mod numbered; // numbered.rt: the rules and their numbers
 mod taking; // taking.rt: one item is taken, or refused
 
-pub use calls::{ListReply, step, steps};
-pub use taking::{StepReply, take, waits};
+pub use calls::{Stopped, step, steps};
+pub use numbered::Rule;
+pub use taking::{take, waits};

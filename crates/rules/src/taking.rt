@@ -1,7 +1,7 @@
 // One item is taken: 15, 13, 14 and 18 refuse it, in this order and before anything is changed; else its rule is carried out.
-ghost use Rattle.std.specs.Prelude.{◌≡◌, true, [], ◌+◌, ◌≤◌, ◌<◌, length};
+ghost use Rattle.std.specs.Prelude.{◌≡◌, true, [], ◌+◌, ◌≤◌, ◌<◌};
 ghost use Rattle.paper.specs.Sizes.{most_cabinets, most_unknowns, most_records};
-ghost use Rattle.layout.specs.Offsets.{cabinets_at, unknowns_at, records_at, owners_at, run_bytes};
+ghost use Rattle.layout.specs.Offsets.{cabinets_at, unknowns_at, records_at, owners_at};
 ghost use Rattle.layout.specs.Fields.{byte_at, count_of};
 ghost use Rattle.layout.specs.Changes.{store_of};
 ghost use Rattle.layout.specs.Soundness.{sound_bytes};
@@ -13,180 +13,152 @@ ghost use Rattle.effects.specs.Changes.{mark};
 ghost use Rattle.effects.specs.Given.{Fits};
 ghost use Rattle.rules.specs.Plans.{plan, plan_of_choice, plan_of_ask};
 ghost use Rattle.rules.specs.Bytes.{out, performed_bytes, taken_bytes};
-ghost use Rattle.rules.specs.Given.{product_count, full_for, done, done_bytes, carried_bytes, waits_in, waits_bytes};
+ghost use Rattle.rules.specs.Numbers.{rule_number};
+ghost use Rattle.rules.specs.Results.{taken};
+ghost use Rattle.rules.specs.Given.{product_count, full_for, done_bytes, as_done, waits_in, waits_bytes};
 
+use super::numbered::Rule;
 use choices::Choice;
-use layout::Store;
-use paper::{Item, refusal, sizes};
+use layout::{Run, Store};
+use paper::{Item, Refusal, sizes};
 
 // An owner mark that is not set.
 const NO_OWNER: usize = layout::NOTHING as usize;
 
-// 0 and the rule's number, or a refusal's number and 0.
-#[repr(C)]
-#[derive(Clone, Copy)]
-pub struct StepReply {
-    pub number: usize,
-    pub rule: usize,
-}
-
-// How many products a statement with the left side a has, by its choice.
-fn products(run: &[u8], a: u8, q: Choice) -> usize
-    requires { (length run.now ≡ run_bytes) × (byte_at run.now records_at ≤ most_records) × (a < byte_at run.now unknowns_at + byte_at run.now records_at) × (q ≡ Decompose → byte_at run.now unknowns_at ≤ a) }
+// How many products a statement with the left side a has, by its choice; one that waits has none.
+fn products(run: &Run, a: u8, q: Choice) -> usize
+    requires { (byte_at run.now records_at ≤ most_records) × (a < byte_at run.now unknowns_at + byte_at run.now records_at) × (q ≡ Decompose → byte_at run.now unknowns_at ≤ a) }
     ensures { Reads (product_count run.now a q) byte_limit result }
 {
     match q {
-        Choice::Waits => 0,
-        Choice::Interchange => 1,
-        Choice::Memo => 0,
-        Choice::Dereference(_) => 1,
-        Choice::Identify => 0,
-        Choice::Conflict => 0,
+        Choice::Waits | Choice::Memo | Choice::Identify | Choice::Conflict => 0,
+        Choice::Interchange | Choice::Dereference(_) => 1,
         Choice::Decompose => layout::part_count(run, a as usize - layout::unknowns(run)),
         Choice::Initiate => 2,
     }
 }
 
 // Whether there is no room for n products once an item goes.
-fn full(run: &[u8], n: usize) -> bool
-    requires { (length run.now ≡ run_bytes) × (0 < count_of run.now) × (n < byte_limit) }
+fn full(run: &Run, n: usize) -> bool
+    requires { (0 < count_of run.now) × (n < byte_limit) }
     ensures { result ≡ full_for n run.now }
 {
     layout::count(run) - 1 + n > sizes::ROOM
 }
 
-// A local rule's number, and the store that it gives back.
+// A local rule, and the store that it gives back.
 #[derive(Clone, Copy)]
-struct Done {
-    rule: usize,
+struct Carried {
+    rule: Rule,
     store: Store,
 }
 
 // The rule of a statement's choice, with its cabinet's store in and out by value; where it waits, nothing is changed.
-fn by_choice(run: &mut [u8], s: Store, place: usize, c: u8, a: u8, b: u8, q: Choice) -> Done
+fn by_choice(
+    run: &mut Run,
+    s: Store,
+    place: usize,
+    c: u8,
+    a: u8,
+    b: u8,
+    q: Choice,
+) -> Result<Carried, Refusal>
     requires { StatementIn run.old c a b × Fits run.old place (product_count run.old a q) × (q ≡ choice_of (byte_at run.old unknowns_at) run.old c a b) }
-    ensures { done result.rule result.store.marks run.new ≡ done_bytes s.marks run.old place (plan_of_choice run.old c a b q) }
+    ensures { as_done result run.new ≡ done_bytes s.marks run.old place (plan_of_choice run.old c a b q) }
 {
     match q {
-        Choice::Waits => Done { rule: 0, store: s },
-        Choice::Interchange => {
-            let store = effects::interchange(run, s, place, c, a, b);
-            Done { rule: 1, store }
-        }
-        Choice::Memo => {
-            let store = effects::memo(run, s, place);
-            Done { rule: 2, store }
-        }
-        Choice::Dereference(m) => {
-            let store = effects::dereference(run, s, place, c, a, b, m);
-            Done { rule: 3, store }
-        }
-        Choice::Identify => {
-            let store = effects::identify(run, s, place);
-            Done { rule: 4, store }
-        }
-        Choice::Conflict => {
-            let store = effects::conflict(run, s, place, c);
-            Done { rule: 5, store }
-        }
+        Choice::Waits => Err(Refusal::StillWaits),
+        Choice::Interchange => Ok(Carried {
+            rule: Rule::Interchange,
+            store: effects::interchange(run, s, place, c, a, b),
+        }),
+        Choice::Memo => Ok(Carried {
+            rule: Rule::Memo,
+            store: effects::memo(run, s, place),
+        }),
+        Choice::Dereference(m) => Ok(Carried {
+            rule: Rule::Dereference,
+            store: effects::dereference(run, s, place, c, a, b, m),
+        }),
+        Choice::Identify => Ok(Carried {
+            rule: Rule::Identify,
+            store: effects::identify(run, s, place),
+        }),
+        Choice::Conflict => Ok(Carried {
+            rule: Rule::Conflict,
+            store: effects::conflict(run, s, place, c),
+        }),
         Choice::Decompose => {
             let v = layout::unknowns(run);
             let i = a as usize - v;
             let n = layout::part_count(run, i);
-            let store = effects::decompose(run, s, place, c, i, b as usize - v, n);
-            Done { rule: 6, store }
+            Ok(Carried {
+                rule: Rule::Decompose,
+                store: effects::decompose(run, s, place, c, i, b as usize - v, n),
+            })
         }
-        Choice::Initiate => {
-            let store = effects::initiate(run, s, place, c, a, b);
-            Done { rule: 7, store }
-        }
+        Choice::Initiate => Ok(Carried {
+            rule: Rule::Initiate,
+            store: effects::initiate(run, s, place, c, a, b),
+        }),
     }
 }
 
-// The rule of a statement's choice is carried out, the store goes back, and the rule's number is given.
-fn carry_out(run: &mut [u8], s: Store, place: usize, c: u8, a: u8, b: u8, q: Choice) -> usize
-    requires { StatementIn run.old c a b × Fits run.old place (product_count run.old a q) × (q ≡ choice_of (byte_at run.old unknowns_at) run.old c a b) × (s.marks ≡ store_of c run.old) }
-    ensures { out 0 result run.new ≡ carried_bytes run.old place (plan_of_choice run.old c a b q) }
-{
-    let r = by_choice(run, s, place, c, a, b, q);
-    layout::save_store(run, c as usize, r.store);
-    r.rule
-}
-
-// The statement a = b at `place`: its choice by its cabinet's store, 14 and 18, then its rule.
-fn take_statement(run: &mut [u8], place: usize, c: u8, a: u8, b: u8) -> StepReply
+// The statement a = b at `place`: its choice by its cabinet's store, 14 and 18, then its rule. What waits has no products, so
+// that there is room for them and it is told 14.
+fn take_statement(run: &mut Run, place: usize, c: u8, a: u8, b: u8) -> Result<Rule, Refusal>
     requires { StatementIn run.old c a b × Fits run.old place 0 }
-    ensures { out result.number result.rule run.new ≡ performed_bytes run.old place (plan_of_choice run.old c a b (choice_of (byte_at run.old unknowns_at) run.old c a b)) }
+    ensures { taken result run.new ≡ performed_bytes run.old place (plan_of_choice run.old c a b (choice_of (byte_at run.old unknowns_at) run.old c a b)) }
 {
     let s = layout::load_store(run, c as usize);
     let q = choices::choose(run, s, c as usize, a as usize, b as usize);
-    if let Choice::Waits = q {
-        return StepReply {
-            number: refusal::STILL_WAITS,
-            rule: 0,
-        };
-    }
     let n = products(run, a, q);
     if full(run, n) {
-        return StepReply {
-            number: refusal::NO_ROOM,
-            rule: 0,
-        };
+        return Err(Refusal::NoRoom);
     }
-    let rule = carry_out(run, s, place, c, a, b, q);
-    StepReply { number: 0, rule }
+    let carried = by_choice(run, s, place, c, a, b, q)?;
+    layout::save_store(run, c as usize, carried.store);
+    Ok(carried.rule)
 }
 
 // An ask of x and u at `place`: the first wins, where there is room for its news; each later one loses.
-fn take_ask(run: &mut [u8], place: usize, x: u8, u: u8) -> StepReply
+fn take_ask(run: &mut Run, place: usize, x: u8, u: u8) -> Result<Rule, Refusal>
     requires { Fits run.old place 0 × (byte_at run.old cabinets_at ≤ most_cabinets) × (x < most_unknowns) }
-    ensures { out result.number result.rule run.new ≡ performed_bytes run.old place (plan_of_ask run.old x u (byte_at run.old (owners_at + x))) }
+    ensures { taken result run.new ≡ performed_bytes run.old place (plan_of_ask run.old x u (byte_at run.old (owners_at + x))) }
 {
     if layout::owner_at(run, x as usize) != NO_OWNER {
         effects::replace_by_none(run, place);
-        return StepReply { number: 0, rule: 9 };
+        return Ok(Rule::Lose);
     }
     let s = layout::cabinets(run);
     if full(run, s) {
-        return StepReply {
-            number: refusal::NO_ROOM,
-            rule: 0,
-        };
+        return Err(Refusal::NoRoom);
     }
     effects::win(run, place, s, x, u);
-    StepReply { number: 0, rule: 8 }
+    Ok(Rule::Win)
 }
 
 // A news of x and u at `place` arrives at cabinet c.
-fn take_news(run: &mut [u8], place: usize, c: u8, x: u8, u: u8) -> StepReply
+fn take_news(run: &mut Run, place: usize, c: u8, x: u8, u: u8) -> Rule
     requires { Fits run.old place 0 × (c < most_cabinets) × (x < most_unknowns) }
-    ensures { out result.number result.rule run.new ≡ performed_bytes run.old place (plan 10 [] (mark c x u)) }
+    ensures { out 0 (rule_number result) run.new ≡ performed_bytes run.old place (plan 10 [] (mark c x u)) }
 {
     let s = layout::load_store(run, c as usize);
     let t = effects::arrive(run, s, place, x, u);
     layout::save_store(run, c as usize, t);
-    StepReply {
-        number: 0,
-        rule: 10,
-    }
+    Rule::Arrive
 }
 
 // The item at `place` of a sound run is taken: 15, 13, then what its kind says.
-pub fn take(run: &mut [u8], place: usize) -> StepReply
-    requires { (length run.old ≡ run_bytes) × (sound_bytes run.old ≡ true) }
-    ensures { out result.number result.rule run.new ≡ taken_bytes run.old place }
+pub fn take(run: &mut Run, place: usize) -> Result<Rule, Refusal>
+    requires { sound_bytes run.old ≡ true }
+    ensures { taken result run.new ≡ taken_bytes run.old place }
 {
     if layout::clash_byte(run) != 0 {
-        return StepReply {
-            number: refusal::HAS_CLASHED,
-            rule: 0,
-        };
+        return Err(Refusal::HasClashed);
     }
     if place >= layout::count(run) {
-        return StepReply {
-            number: refusal::NO_SUCH_PLACE,
-            rule: 0,
-        };
+        return Err(Refusal::NoSuchPlace);
     }
     let j = layout::item_at(run, place);
     match j {
@@ -195,35 +167,28 @@ pub fn take(run: &mut [u8], place: usize) -> StepReply
             left,
             right,
         } => take_statement(run, place, cabinet, left, right),
-        Item::Ask {
-            cabinet: _,
-            left,
-            right,
-        } => take_ask(run, place, left, right),
+        Item::Ask { left, right, .. } => take_ask(run, place, left, right),
         Item::News {
             cabinet,
             left,
             right,
-        } => take_news(run, place, cabinet, left, right),
+        } => Ok(take_news(run, place, cabinet, left, right)),
     }
 }
 
 // Whether the statement a = b waits at cabinet c.
-fn statement_waits(run: &[u8], c: u8, a: u8, b: u8) -> bool
+fn statement_waits(run: &Run, c: u8, a: u8, b: u8) -> bool
     requires { StatementIn run.now c a b }
     ensures { result ≡ waits_in (plan_of_choice run.now c a b (choice_of (byte_at run.now unknowns_at) run.now c a b)) }
 {
     let s = layout::load_store(run, c as usize);
     let q = choices::choose(run, s, c as usize, a as usize, b as usize);
-    if let Choice::Waits = q {
-        return true;
-    }
-    false
+    matches!(q, Choice::Waits)
 }
 
 // Whether the item at `place` of a sound run waits: only a statement can.
-pub fn waits(run: &[u8], place: usize) -> bool
-    requires { (length run.now ≡ run_bytes) × (sound_bytes run.now ≡ true) × (place < count_of run.now) }
+pub fn waits(run: &Run, place: usize) -> bool
+    requires { (sound_bytes run.now ≡ true) × (place < count_of run.now) }
     ensures { result ≡ waits_bytes run.now place }
 {
     let j = layout::item_at(run, place);
@@ -233,15 +198,6 @@ pub fn waits(run: &[u8], place: usize) -> bool
             left,
             right,
         } => statement_waits(run, cabinet, left, right),
-        Item::Ask {
-            cabinet: _,
-            left: _,
-            right: _,
-        } => false,
-        Item::News {
-            cabinet: _,
-            left: _,
-            right: _,
-        } => false,
+        Item::Ask { .. } | Item::News { .. } => false,
     }
 }

@@ -9,8 +9,10 @@ ghost use Rattle.statements.specs.Writes.{answer, load_bytes, written_bytes};
 ghost use Rattle.rules.specs.Bytes.{out, step_bytes, steps_bytes};
 ghost use Rattle.maps.specs.Bytes.{mapped, map_bytes_of};
 
+mod replies; // replies.rt: what is replied to C
+
 use reading::Span;
-use rules::{ListReply, StepReply};
+pub use replies::{ListReply, StepReply};
 use statements::{LoadReply, WriteReply};
 
 // The reply to a map call.
@@ -38,14 +40,14 @@ pub fn sc_statement(file: &[u8], n: usize) -> Span
 pub fn sc_step(run: &mut [u8], place: usize) -> StepReply
     ensures { out result.number result.rule run.new ≡ step_bytes run.old place }
 {
-    rules::step(run, place)
+    StepReply::from(rules::step(run, place))
 }
 
 // A list of steps, at places: number and how many were done.
 pub fn sc_steps(run: &mut [u8], places: &[u32]) -> ListReply
     ensures { out result.number result.done run.new ≡ steps_bytes run.old places.now }
 {
-    rules::steps(run, places)
+    ListReply::from(rules::steps(run, places))
 }
 
 // The map of a run that has come to its end unclashed: number.

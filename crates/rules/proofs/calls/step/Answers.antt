@@ -1,17 +1,12 @@
 -- `step` meets its contract: 12, 17, and what is taken of a sound run.
-use mathlib.Core.Path.{sym, ◌∙◌}
 use Rattle.rules.proofs.CallLaws.{step_length, step_taken, step_unsound}
-use borrow.Author.Rules.{rules}
 use Rattle.rules.proofs.calls.step.Goals as goal
 
-pub returns-then-run-ne-RUN_BYTES : goal.returns-then-run-ne-RUN_BYTES
-returns-then-run-ne-RUN_BYTES c = search step_length
+pub returns-in_default : goal.returns-in_default
+returns-in_default c = step_length _ _ c.in_default.ensures.cases
 
-pub take-requires : goal.take-requires
-take-requires c = (search rules, sym c.sound.ensures ∙ c.if-sound.true)
-
-pub returns-then-sound : goal.returns-then-sound
-returns-then-sound c = search step_taken
+pub returns-then-not-sound : goal.returns-then-not-sound
+returns-then-not-sound c = step_unsound _ _ _ c.in-Some.ensures.cases _ c.sound.ensures c.if-not-sound.true
 
 pub returns : goal.returns
-returns c = search step_unsound
+returns c = step_taken _ _ _ c.in-Some.ensures.cases _ c.sound.ensures _ c.if-not-sound.false c.take.ensures

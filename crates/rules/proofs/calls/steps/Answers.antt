@@ -1,17 +1,12 @@
 -- `steps` meets its contract: 12, 17, and what is taken of a sound run.
-use mathlib.Core.Path.{sym, ◌∙◌}
 use Rattle.rules.proofs.CallLaws.{steps_length, steps_taken, steps_unsound}
-use borrow.Author.Rules.{rules}
 use Rattle.rules.proofs.calls.steps.Goals as goal
 
-pub returns-then-run-ne-RUN_BYTES : goal.returns-then-run-ne-RUN_BYTES
-returns-then-run-ne-RUN_BYTES c = search steps_length
+pub returns-in_default : goal.returns-in_default
+returns-in_default c = steps_length _ _ c.in_default.ensures.cases
 
-pub take_all-requires : goal.take_all-requires
-take_all-requires c = (search rules, sym c.sound.ensures ∙ c.if-sound.true)
-
-pub returns-then-sound : goal.returns-then-sound
-returns-then-sound c = search steps_taken
+pub returns-then-not-sound : goal.returns-then-not-sound
+returns-then-not-sound c = steps_unsound _ _ _ c.in-Some.ensures.cases _ c.sound.ensures c.if-not-sound.true
 
 pub returns : goal.returns
-returns c = search steps_unsound
+returns c = steps_taken _ _ _ c.in-Some.ensures.cases _ c.sound.ensures _ c.if-not-sound.false c.take_all.ensures

@@ -1,23 +1,26 @@
--- `take_all`: after i turns i places are done, and what the list does from there on the bytes as they are is what it does in all. The
--- bytes stay ready for a step. The measure is what is left of the list.
-use borrow.Author.Rules.{rules}
+-- `take_all`: after some turns so many places are done, and what the list does from there on the bytes as they are is what it does in
+-- all. The bytes stay ready for a step.
 use mathlib.Core.Path.{refl}
+use borrow.Author.Rules.{rules}
 use native.Mathlib.Omega.{arith}
 use Rattle.rules.proofs.Bridge.{ready_sound}
-use Rattle.rules.proofs.CallLaws.{sound_ready, ready_next, list_over, list_more, list_ends}
+use Rattle.rules.proofs.CallLaws.{sound_ready, ready_after, list_over, list_more, list_ends}
 use Rattle.rules.proofs.calls.take_all.Goals as goal
 
-pub loop-i-init : goal.loop-i-init
-loop-i-init c = (omega arith, refl, sound_ready _ c.requires.0 c.requires.1 (λ i. omega (arith, c.slice_known-1.given i)), refl)
+pub loop-done-init : goal.loop-done-init
+loop-done-init c = record { ready = sound_ready _ (search rules) c.requires c.fits-run; onward = refl }
 
-pub take-r-requires : goal.take-r-requires
-take-r-requires c = (search rules, ready_sound _ c.loop-i.invariant.2)
-
-pub returns-then-number-ne0 : goal.returns-then-number-ne0
-returns-then-number-ne0 c = search list_ends
-
-pub loop-i-preserved : goal.loop-i-preserved
-loop-i-preserved c = (omega arith, omega arith, search ready_next, search list_more)
+pub take-requires : goal.take-requires
+take-requires c = ready_sound _ c.loop-done.invariant.ready
 
 pub returns : goal.returns
-returns c = search list_over
+returns c = search (list_over, c.loop-done.invariant.onward, c.loop-done.auto.done-end)
+
+pub returns-in-Err : goal.returns-in-Err
+returns-in-Err c = list_ends _ _ _ _ c.loop-done.invariant.onward _ (omega arith) _ c.in-Err.ensures
+
+pub loop-done-preserved : goal.loop-done-preserved
+loop-done-preserved c = record {
+  ready = ready_after _ _ _ _ c.take.ensures c.loop-done.invariant.ready;
+  onward = list_more _ _ _ _ c.loop-done.invariant.onward _ (omega arith) _ c.in_default.not-Err c.take.ensures;
+}

@@ -1,10 +1,7 @@
 -- `take_ask` meets its contract: a law for each answer, with the owner mark and S as they are read.
-use Rattle.rules.proofs.TakeLaws.{ask_lost, ask_full, room_fits, ask_won}
+use Rattle.rules.proofs.TakeLaws.{ask_full, room_fits, ask_won}
 use borrow.Author.Rules.{rules}
 use Rattle.rules.proofs.taking.take_ask.Goals as goal
-
-pub returns-then-owner_at-ne-NO_OWNER : goal.returns-then-owner_at-ne-NO_OWNER
-returns-then-owner_at-ne-NO_OWNER c = search ask_lost
 
 pub returns-then-full : goal.returns-then-full
 returns-then-full c =

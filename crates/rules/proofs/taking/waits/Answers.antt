@@ -2,6 +2,7 @@
 use Rattle.rules.proofs.TakeLaws.{waits_statement, waits_ask, waits_news}
 use Rattle.rules.proofs.SoundItems.{sound_place, sound_statement}
 use borrow.Author.Rules.{rules}
+use mathlib.Core.Logic.{inl, inr}
 use Rattle.rules.proofs.taking.waits.Goals as goal
 
 pub item_at-j-requires : goal.item_at-j-requires
@@ -14,7 +15,8 @@ pub returns-in-Statement : goal.returns-in-Statement
 returns-in-Statement c = search waits_statement
 
 pub returns-in-Ask : goal.returns-in-Ask
-returns-in-Ask c = search waits_ask
-
-pub returns-in-News : goal.returns-in-News
-returns-in-News c = search waits_news
+returns-in-Ask c =
+    elim c.in-Ask.is [
+      | inl f ↦ waits_ask _ _ _ c.item_at-j.ensures _ _ _ f.3
+      | inr f ↦ waits_news _ _ _ c.item_at-j.ensures _ _ _ f.3
+    ]
