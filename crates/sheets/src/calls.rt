@@ -4,7 +4,7 @@ ghost use Rattle.std.specs.Iterator.{at_most};
 
 use super::pieces;
 
-// What a call calls, by the number that a sheet has for it.
+// What a call asks for; a sheet has a number for each.
 #[derive(Clone, Copy)]
 pub enum Kind {
     Load,

@@ -17,16 +17,14 @@ pub const FILE_SPACE: usize = paper::sizes::LONGEST_FILE + 1;
 // The longest list of places.
 const LIST_SPACE: usize = 16384;
 
-// The places of a list, two bytes each, into `places`; gives their count.
-fn read_places(bytes: &[u8], places: &mut [u32; LIST_SPACE]) -> usize
-    ensures { result ≤ LIST_SPACE }
-{
+// The places of a list, two bytes each, put into `places`; gives those that there are.
+fn read_places<'a>(bytes: &[u8], places: &'a mut [u32; LIST_SPACE]) -> &'a [u32] {
     let pairs = bytes.chunks(2);
     let count = pairs.len().min(LIST_SPACE);
     for (place, pair) in places.iter_mut().zip(pairs) {
         *place = u32::from(pieces::two(pair, 0));
     }
-    count
+    &places[..count]
 }
 
 // Statement: n (2), the file. The part of the file that it gives is hashed.
@@ -86,8 +84,8 @@ impl Lent {
     fn list(&mut self, bytes: &[u8]) -> Line {
         let n = pieces::number(bytes, 0).min(RUN_SPACE);
         let mut places = [0u32; LIST_SPACE];
-        let count = read_places(pieces::rest(bytes, 2), &mut places);
-        let reply = sceolandra::sc_steps(&mut self.run[..n], &places[..count]);
+        let places = read_places(pieces::rest(bytes, 2), &mut places);
+        let reply = sceolandra::sc_steps(&mut self.run[..n], places);
         Line {
             number: reply.number as u64,
             value: reply.done as u64,
@@ -130,7 +128,7 @@ impl Lent {
         }
     }
 
-    // Poke: where (2), how many bytes of the run are laid (2), the pattern that is laid over and over.
+    // Poke: where (2), how many bytes of the run are laid (2), the pattern that is laid over and over; an empty one lays nothing.
     fn poke(&mut self, bytes: &[u8]) -> Line {
         let at = pieces::number(bytes, 0);
         let count = pieces::number(bytes, 2);
