@@ -1,10 +1,13 @@
 -- Laws of the run that the program makes: a turn of its loop for each way out, with the bytes ready for the next step.
-use Rattle.std.proofs.Common.{◌≡◌, ℕ, zero, suc, ◌+◌, ◌-◌, ◌<◌, ◌≤◌, Bool, true, false, not, eqb, ltb, leb, List, length, sym, refl, ap, ◌∙◌, subst, true≢false, le_of_lt, mod-lt, arith, eq-eqb, ne_eqb}
+use Rattle.std.proofs.Common.{◌≡◌, ℕ, zero, suc, ◌+◌, ◌-◌, ◌<◌, ◌≤◌, Bool, true, false, eqb, ltb, leb, List, length, sym, refl, ap, ◌∙◌, subst, true≢false, le_of_lt, mod-lt, arith}
 use borrow.Author.Tests.{eqb-false}
+use Rattle.std.specs.Prelude.{Result, Ok, Err}
+use Rattle.std.specs.Result.{is_err}
 use Rattle.base.specs.Choice.{pick}
 use Rattle.base.specs.Lists.{Bytes}
 use Rattle.paper.specs.Sizes.{room}
-use Rattle.paper.specs.Refusals.{no_such_place, has_clashed, no_room}
+use Rattle.paper.specs.Refusals.{no_such_place, has_clashed, no_room, refusal_number}
+use Rattle.paper.specs.declared.refused.Refusal.{Refusal}
 use Rattle.paper.specs.Counts.{most_steps}
 use Rattle.paper.specs.Programs.{first_state, next_state, drawn_place}
 use Rattle.layout.specs.Offsets.{run_bytes, clash_at, cabinets_at, unknowns_at, statements_at}
@@ -12,10 +15,12 @@ use Rattle.layout.specs.Fields.{byte_at, count_of, item_at}
 use Rattle.layout.specs.Changes.{removed_at, appended_all}
 use Rattle.layout.specs.Soundness.{sound_bytes}
 use Rattle.effects.specs.Changes.{applied}
+use Rattle.rules.specs.declared.numbered.Rule.{Rule}
+use Rattle.rules.specs.Results.{taken}
 use Rattle.rules.specs.Plans.{Plan, wait, plan, plan_of}
 use Rattle.rules.specs.Bytes.{Out, out, performed_bytes, taken_bytes}
 use Rattle.rules.proofs.Bridge.{Ready, ready_sound}
-use Rattle.rules.proofs.CallLaws.{sound_ready, ready_next}
+use Rattle.rules.proofs.CallLaws.{sound_ready, ready_after}
 use Rattle.drawing.specs.Draws.{ready_from, taken_place, ended_bytes, after_taken, drawn_from, drawn_bytes}
 
 -- a place that is refused leaves the bytes
@@ -64,16 +69,6 @@ draw_start d n p l w y =
     let s : n - 0 ≡ most_steps (byte_at d cabinets_at) (byte_at d unknowns_at) (byte_at d statements_at) = omega arith in
     record { ready = sound_ready d l w y; same = ap (λ (k : ℕ). drawn_from k first_state d) s }
 
--- whether a run has ended, by the clash byte and by the pending count
-module _ (d : List ℕ) (b : ℕ) (eb : b ≡ byte_at d clash_at) where
-  pub ended_clashed : (b ≡ 0 → ⊥) → not (eqb b 0) ≡ ended_bytes d
-  unfolding ended_bytes
-  ended_clashed n = rw (← eb, ne_eqb b 0 n) refl
-
-  pub ended_counted : b ≡ 0 → (n : ℕ) → n ≡ count_of d → eqb n 0 ≡ ended_bytes d
-  unfolding ended_bytes
-  ended_counted z n en = rw (← eb, eq-eqb b 0 z, en) refl
-
 -- what a turn makes of d with k steps left after it, by what is taken
 abbrev by_taken : ℕ → ℕ → List ℕ → Out → List ℕ
 by_taken k x d o = after_taken o d (λ e. drawn_from k (next_state x) e)
@@ -110,27 +105,35 @@ module _ (d : List ℕ) (b : Bool) (eb : b ≡ ended_bytes d) where
     pub draw_ended : b ≡ true → d ≡ drawn_bytes d₀
     draw_ended t = ap (λ (c : Bool). pick c d (by_taken (n - (i + 1)) x d (taken_bytes d (taken_place d (next_state x))))) (sym t) ∙ turn
 
-    module _ (f : b ≡ false) (x' p : ℕ) (ex : x' ≡ next_state x) (ep : p ≡ taken_place d x') (m r : ℕ) (d' : List ℕ)
-        (o : out m r d' ≡ taken_bytes d p) where
-      taken : by_taken (n - (i + 1)) x d (out m r d') ≡ drawn_bytes d₀
-      taken =
+    module _ (f : b ≡ false) (x' p : ℕ) (ex : x' ≡ next_state x) (ep : p ≡ taken_place d x') (r : Result Rule Refusal) (d' : List ℕ)
+        (o : taken r d' ≡ taken_bytes d p) where
+      onward : by_taken (n - (i + 1)) x d (taken r d') ≡ drawn_bytes d₀
+      onward =
           ap (by_taken (n - (i + 1)) x d) (o ∙ ap (taken_bytes d) (ep ∙ ap (taken_place d) ex))
           ∙ ap (λ (c : Bool). pick c d (by_taken (n - (i + 1)) x d (taken_bytes d (taken_place d (next_state x))))) (sym f)
           ∙ turn
 
-      pub draw_refused : (m ≡ 0 → ⊥) → d' ≡ drawn_bytes d₀
-      draw_refused w = go m w (subst (Kept d) (sym o) (refused_kept d p)) taken
+      pub draw_refused : (q : Bool) → q ≡ is_err r → q ≡ true → d' ≡ drawn_bytes d₀
+      draw_refused q e w = go r (sym e ∙ w) (subst (Kept d) (sym o) (refused_kept d p)) onward
         where
-          go : (l : ℕ) → (l ≡ 0 → ⊥) → Kept d (out l r d') → by_taken (n - (i + 1)) x d (out l r d') ≡ drawn_bytes d₀ → d' ≡ drawn_bytes d₀
-          go zero w q t = absurd (w refl)
-          go (suc l) w q t = q ∙ t
+          refused : (l : ℕ) → (l ≡ 0 → ⊥) → Kept d (out l 0 d') → by_taken (n - (i + 1)) x d (out l 0 d') ≡ drawn_bytes d₀ → d' ≡ drawn_bytes d₀
+          refused zero z q t = absurd (z refl)
+          refused (suc l) z q t = q ∙ t
 
-      pub draw_more : m ≡ 0 → Running d₀ (n - (i + 1)) x' d'
-      draw_more w =
+          go : (r : Result Rule Refusal) → is_err r ≡ true → Kept d (taken r d') → by_taken (n - (i + 1)) x d (taken r d') ≡ drawn_bytes d₀ → d' ≡ drawn_bytes d₀
+          go (Ok k) w q t = absurd (true≢false (sym w))
+          go (Err e) w q t = refused (refusal_number e) (λ (z : refusal_number e ≡ 0). grind arith) q t
+
+      pub draw_more : (q : Bool) → q ≡ is_err r → q ≡ false → Running d₀ (n - (i + 1)) x' d'
+      draw_more q e w =
           record {
-            ready = ready_next d d' p m r o h.ready;
-            same = ap (λ (a : ℕ). drawn_from (n - (i + 1)) a d') ex ∙ ap (λ (a : ℕ). by_taken (n - (i + 1)) x d (out a r d')) (sym w) ∙ taken;
+            ready = ready_after d d' p r o h.ready;
+            same = ap (λ (a : ℕ). drawn_from (n - (i + 1)) a d') ex ∙ go r (sym e ∙ w) onward;
           }
+        where
+          go : (r : Result Rule Refusal) → is_err r ≡ false → by_taken (n - (i + 1)) x d (taken r d') ≡ drawn_bytes d₀ → drawn_from (n - (i + 1)) (next_state x) d' ≡ drawn_bytes d₀
+          go (Ok k) w t = t
+          go (Err e) w t = absurd (true≢false w)
 
 module _ (d₀ : List ℕ) (n i x : ℕ) (d : List ℕ) (h : Running d₀ (n - i) x d) where
   pub running_sound : sound_bytes d ≡ true

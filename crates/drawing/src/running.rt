@@ -62,7 +62,7 @@ fn step_count(run: &Run) -> usize
 fn ended(run: &Run) -> bool
     ensures { result ≡ ended_bytes run.now }
 {
-    layout::clash_byte(run) != 0 || layout::count(run) == 0
+    layout::has_clashed(run) || layout::count(run) == 0
 }
 
 // A sound run is run to its end, one drawn place after the other. The step count bounds it; a refusal, which no run from a file
@@ -78,8 +78,7 @@ pub fn draw(run: &mut Run)
         }
         state = generator::next_state(state);
         let place = taken_place(run, state);
-        let reply = rules::take(run, place);
-        if reply.number != 0 {
+        if rules::take(run, place).is_err() {
             return;
         }
     }

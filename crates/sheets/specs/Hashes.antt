@@ -1,6 +1,6 @@
 -- The hash that stands for a buffer: its bytes as the digits of a number to base 257 after a leading 1, by what that number leaves
 -- when divided by a prime.
-use Rattle.std.specs.Prelude.{List, [], ◌∷◌, ℕ, ◌+◌, ◌*◌, ◌%◌}
+use Rattle.std.specs.Prelude.{List, ℕ, ◌+◌, ◌*◌, ◌%◌, fold}
 
 -- the largest prime below 2^55
 abbrev pub prime : ℕ
@@ -12,5 +12,4 @@ folded h x = (257 * (h % prime) + x % prime) % prime
 
 -- a hash with bytes more
 abbrev pub hash_from : ℕ → List ℕ → ℕ
-hash_from h [] = h
-hash_from h (b ∷ bs) = hash_from (folded h b) bs
+hash_from h bs = fold folded h bs

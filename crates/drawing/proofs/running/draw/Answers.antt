@@ -12,11 +12,11 @@ returns-then-ended c = search draw_ended
 pub taken_place-place-requires : goal.taken_place-place-requires
 taken_place-place-requires c = (search running_sound, search some_pending)
 
-pub take-reply-requires : goal.take-reply-requires
-take-reply-requires c = search (running_sound, rules)
+pub take-requires : goal.take-requires
+take-requires c = search (running_sound, rules)
 
-pub returns-then-reply-ne0 : goal.returns-then-reply-ne0
-returns-then-reply-ne0 c = search draw_refused
+pub returns-then-is_err : goal.returns-then-is_err
+returns-then-is_err c = search draw_refused
 
 pub loop-preserved : goal.loop-preserved
 loop-preserved c = search draw_more

@@ -1,9 +1,12 @@
 -- `ended` meets its contract: the clash byte first, then the pending count.
-use Rattle.drawing.proofs.DrawLaws.{ended_clashed, ended_counted}
+use Rattle.std.proofs.Common.{arith}
+use Rattle.drawing.specs.Draws.{ended_bytes}
 use Rattle.drawing.proofs.running.ended.Goals as goal
 
-pub returns-then-clash_byte-ne0 : goal.returns-then-clash_byte-ne0
-returns-then-clash_byte-ne0 c = search ended_clashed
+pub returns-then-has_clashed : goal.returns-then-has_clashed
+unfolding ended_bytes
+returns-then-has_clashed c = grind arith
 
-pub returns-else-clash_byte-ne0 : goal.returns-else-clash_byte-ne0
-returns-else-clash_byte-ne0 c = search ended_counted
+pub returns-else-has_clashed : goal.returns-else-has_clashed
+unfolding ended_bytes
+returns-else-has_clashed c = grind arith
