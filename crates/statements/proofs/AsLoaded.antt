@@ -76,6 +76,15 @@ module _ (d : List ℕ) where
         each_below (λ p. eqb (byte_at d (item_from p)) 1) (byte_at d statements_at) (λ p l. eq-eqb (byte_at d (item_from p)) 1 (w.kinds p l)),
       )
 
+-- only kind 1 is a statement
+pub kind_1 : (k c a b c' a' b' : ℕ) → item_of_bytes k c a b ≡ statement c' a' b' → k ≡ 1
+kind_1 k c a b c' a' b' e = go (eqb k 1) refl (eqb k 2) e
+  where
+    go : (x : Bool) → eqb k 1 ≡ x → (y : Bool) → pick x (statement c a b) (pick y (ask c a b) (news c a b)) ≡ statement c' a' b' → k ≡ 1
+    go true f y g = eqb-true k 1 f
+    go false f true g = absurd cc
+    go false f false g = absurd cc
+
 -- an item of kind 1
 item_of_kind : (d : List ℕ) (p : ℕ) → byte_at d (item_from p) ≡ 1 → item_at d p ≡ as_item (statement_at d p)
 unfolding item_at
@@ -254,19 +263,11 @@ module _ (d : List ℕ) (qs : List Statement) (run : run_of d ≡ initial qs) (z
       go true f later = later (ltb-true p k f)
       go false f later = let m : p ≡ k = omega (arith, ltb-false p k f) in (q, subst (λ (j : ℕ). item_at d j ≡ as_item q) m first)
 
-  kind_1 : (k c a b : ℕ) (q : Statement) → item_of_bytes k c a b ≡ as_item q → k ≡ 1
-  kind_1 k c a b q e = go (eqb k 1) refl (eqb k 2) e
-    where
-      go : (x : Bool) → eqb k 1 ≡ x → (y : Bool) → pick x (statement c a b) (pick y (ask c a b) (news c a b)) ≡ as_item q → k ≡ 1
-      go true f y g = eqb-true k 1 f
-      go false f true g = absurd (let w : ◌≡◌ {A = ℕ} 0 1 = cc in omega arith)
-      go false f false g = absurd (let w : ◌≡◌ {A = ℕ} 0 1 = cc in omega arith)
-
   kinds_1 : (p : ℕ) → p < byte_at d statements_at → byte_at d (item_from p) ≡ 1
   unfolding item_at
   kinds_1 p h =
       let w = each_item qs (count_of d) 0 pending_is p (omega arith) (omega (arith, count_is)) in
-      kind_1 (byte_at d (item_from p)) (byte_at d (item_from p + 1)) (byte_at d (item_from p + 2)) (byte_at d (item_from p + 3)) w.0 w.1
+      kind_1 (byte_at d (item_from p)) (byte_at d (item_from p + 1)) (byte_at d (item_from p + 2)) (byte_at d (item_from p + 3)) w.0.cabinet w.0.left w.0.right w.1
 
   pub initial_as_loaded : AsLoadedBytes d
   initial_as_loaded = record { running = running; count = count_is; marks = marks_255; memos = memos_0; kinds = kinds_1 }
