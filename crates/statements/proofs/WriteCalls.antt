@@ -111,22 +111,24 @@ module _ (d : List ℕ) (l : length d ≡ run_bytes) (b : Bytes d) (s : sound_by
     file_has_room = record { fits = omega (arith, file_short, k, z) }
 
     module _ (w1 : Writer) (g : Wrote (file_bytes (file_of d)) w w1) where
+      pub end_is : w1.at ≡ length (file_bytes (file_of d))
+      end_is = omega (arith, g.put.past, z)
+
       pub end_fits : w1.at ≤ longest_file
-      end_fits = omega (arith, file_short, g.put.past, z)
+      end_fits = omega (arith, file_short, end_is)
 
       -- and zeros after it
       pub padded_put : (y : List ℕ) → y ≡ replicate (longest_file - w1.at) 0
-          → answer 0 w1.at (put_mid w1.at (longest_file - w1.at) w1.file.now y) ≡ answer 0 (length (file_bytes (file_of d))) (padded_file (file_of d))
+          → put_mid w1.at (longest_file - w1.at) w1.file.now y ≡ padded_file (file_of d)
       unfolding padded_file put
       padded_put y e =
           let bs = file_bytes (file_of d) in
-          let q : w1.at ≡ length bs = omega (arith, g.put.past, z) in
           let u : w1.file.now ≡ bs ++ drop (length bs) w.file.now = g.put.bytes ∙ rw (z, zero-add) refl in
-          let t : take w1.at w1.file.now ≡ bs = rw (u, q) (take_at bs (drop (length bs) w.file.now) (length bs) refl) in
+          let t : take w1.at w1.file.now ≡ bs = rw (u, end_is) (take_at bs (drop (length bs) w.file.now) (length bs) refl) in
           let n : length w1.file.now ≡ longest_file = put_long g.put (omega (arith, file_short, k, z)) ∙ k in
           let f : drop (longest_file - w1.at) (drop w1.at w1.file.now) ≡ [] =
           drop_of_length-le (drop w1.at w1.file.now) {i = longest_file - w1.at} (omega (arith, length-drop w1.at w1.file.now, n)) in
-          rw (t, f, e, q, append-nil) refl
+          rw (t, f, e, end_is, append-nil) refl
 
 -- a lent file of the wrong length
 pub file_wrong_length : (d m : List ℕ) → length d ≡ run_bytes → (length m ≡ longest_file → ⊥) → answer wrong_length 0 m ≡ written_bytes d m

@@ -7,7 +7,7 @@ ghost use Rattle.paper.specs.Numbers.{number_bytes};
 ghost use Rattle.paper.specs.Files.{each, record_bytes, statement_bytes, table_bytes, file_bytes, padded_file};
 ghost use Rattle.layout.specs.Fields.{part_count_of, parts_from, record_of, records_from, table_of};
 ghost use Rattle.layout.specs.Soundness.{sound_bytes};
-ghost use Rattle.statements.specs.Writes.{all_statements, as_loaded, statement_at, file_of, HasRoom, Wrote, answer, write_answer, written_bytes};
+ghost use Rattle.statements.specs.Writes.{all_statements, as_loaded, statement_at, file_of, HasRoom, Wrote, write_answer, written_bytes};
 
 use layout::Run;
 use paper::{Item, Refusal, sizes};
@@ -74,6 +74,7 @@ impl Writer<'_> {
         requires { (p < room) × HasRoom (statement_bytes (statement_at run.now p)) self.old }
         ensures { Wrote (statement_bytes (statement_at run.now p)) self.old self.new }
     {
+        // Its kind is known, so the three bytes are read where they stand: an item would have to be matched first.
         let from = layout::PENDING + layout::ITEM_BYTES * p;
         self.number(u64::from(run[from + 1]));
         self.number(u64::from(run[from + 2]));
@@ -111,7 +112,8 @@ impl Writer<'_> {
 // The file of a run that is as loaded, and zeros up to the longest file's length; gives the file's length.
 fn write_padded(run: &Run, file: &mut LongestFile) -> usize
     requires { (sound_bytes run.now ≡ true) × (as_loaded run.now ≡ true) }
-    ensures { answer 0 result file.new ≡ answer 0 (length (file_bytes (file_of run.now))) (padded_file (file_of run.now)) }
+    ensures end { result ≡ length (file_bytes (file_of run.now)) }
+    ensures bytes { file.new ≡ padded_file (file_of run.now) }
 {
     let mut writer = Writer { file, at: 0 };
     writer.whole(run);
