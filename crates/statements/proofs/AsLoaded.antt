@@ -5,7 +5,8 @@ use mathlib.Core.Bool.{Bool, true, false, ◌&&◌}
 use mathlib.Core.List.{List, [], ◌∷◌, map}
 use mathlib.Core.Option.{none, some}
 use Prim.Native.Nat.{ℕ, zero, suc, ◌+◌, ◌-◌, ◌/◌, ◌%◌, ◌≤◌, ◌<◌}
-use native.Mathlib.Omega.{arith}
+use Rattle.std.proofs.Common.{arith}
+use Rattle.std.proofs.lemmas.Bool.Decides.{nat_tests}
 use borrow.Author.Tests.{ltb-true, ltb-false, lt-ltb, eqb-true, eqb-false, eq-eqb}
 use lib.Dec.{ltb, eqb}
 use lib.ListN.{length, length-map}
@@ -24,6 +25,7 @@ use Rattle.layout.specs.Fields.{byte_at, clash_of, count_of, owner_mark, store_m
 use Rattle.layout.specs.Soundness.{all_are}
 use Rattle.layout.proofs.Canonical.{Canonical}
 use Rattle.statements.specs.Writes.{all_statements, as_loaded, statement_at, file_of}
+use Rattle.statements.proofs.Bare.{bare_state}
 
 -- the test, taken apart
 pub record AsLoadedBytes (d : List ℕ) : Type 0 where
@@ -34,35 +36,30 @@ pub record AsLoadedBytes (d : List ℕ) : Type 0 where
   pub kinds : (p : ℕ) → p < byte_at d statements_at → byte_at d (item_from p) ≡ 1
 
 module _ (d : List ℕ) where
-  marks_test : Bool
-  marks_test = all_are 255 (memos_at - owners_at) owners_at d
+  -- bytes that are all v, one by one
+  each_is : (v n at i : ℕ) → all_are v n at d ≡ true → at ≤ i → i < at + n → byte_at d i ≡ v
+  unfolding all_are
+  each_is v n at i h a b =
+      let e : at + (i - at) ≡ i = omega arith in
+      subst (λ (j : ℕ). byte_at d j ≡ v) e
+      (eqb-true (byte_at d (at + (i - at))) v (below_each (λ j. eqb (byte_at d (at + j)) v) n h (i - at) (omega arith)))
 
-  memos_test : Bool
-  memos_test = all_are 0 (pending_at - memos_at) memos_at d
-
-  kinds_test : Bool
-  kinds_test = all_statements (byte_at d statements_at) d
+  each_statement : (n p : ℕ) → all_statements n d ≡ true → p < n → byte_at d (item_from p) ≡ 1
+  unfolding all_statements
+  each_statement n p h a = eqb-true (byte_at d (item_from p)) 1 (below_each (λ p. eqb (byte_at d (item_from p)) 1) n h p a)
 
   pub as_loaded_out : as_loaded d ≡ true → AsLoadedBytes d
-  unfolding as_loaded marks_test memos_test kinds_test all_are all_statements
+  unfolding as_loaded
   as_loaded_out h =
-      let a = snd_true (eqb (byte_at d clash_at) 0) (eqb (count_of d) (byte_at d statements_at) && (marks_test && (memos_test && kinds_test))) h in
-      let b = snd_true (eqb (count_of d) (byte_at d statements_at)) (marks_test && (memos_test && kinds_test)) a in
-      let c = snd_true marks_test (memos_test && kinds_test) b in
+      let m : all_are 255 (memos_at - owners_at) owners_at d ≡ true = grind (arith, nat_tests) in
+      let z : all_are 0 (pending_at - memos_at) memos_at d ≡ true = grind (arith, nat_tests) in
+      let k : all_statements (byte_at d statements_at) d ≡ true = grind (arith, nat_tests) in
       record {
-        running = eqb-true (byte_at d clash_at) 0 (fst_true (eqb (byte_at d clash_at) 0) _ h);
-        count = eqb-true (count_of d) (byte_at d statements_at) (fst_true (eqb (count_of d) (byte_at d statements_at)) _ a);
-        marks = λ i l m.
-            let e : owners_at + (i - owners_at) ≡ i = omega arith in
-            subst (λ (j : ℕ). byte_at d j ≡ 255) e
-            (eqb-true (byte_at d (owners_at + (i - owners_at))) 255
-            (below_each (λ j. eqb (byte_at d (owners_at + j)) 255) (memos_at - owners_at) (fst_true marks_test (memos_test && kinds_test) b) (i - owners_at) (omega arith)));
-        memos = λ i l m.
-            let e : memos_at + (i - memos_at) ≡ i = omega arith in
-            subst (λ (j : ℕ). byte_at d j ≡ 0) e
-            (eqb-true (byte_at d (memos_at + (i - memos_at))) 0
-            (below_each (λ j. eqb (byte_at d (memos_at + j)) 0) (pending_at - memos_at) (fst_true memos_test kinds_test c) (i - memos_at) (omega arith)));
-        kinds = λ p l. eqb-true (byte_at d (item_from p)) 1 (below_each (λ p. eqb (byte_at d (item_from p)) 1) (byte_at d statements_at) (snd_true memos_test kinds_test c) p l);
+        running = grind (arith, nat_tests);
+        count = grind (arith, nat_tests);
+        marks = λ i a b. each_is 255 (memos_at - owners_at) owners_at i m a b;
+        memos = λ i a b. each_is 0 (pending_at - memos_at) memos_at i z a b;
+        kinds = λ p a. each_statement (byte_at d statements_at) p k a;
       }
 
   pub as_loaded_in : AsLoadedBytes d → as_loaded d ≡ true
@@ -76,6 +73,10 @@ module _ (d : List ℕ) where
         each_below (λ p. eqb (byte_at d (item_from p)) 1) (byte_at d statements_at) (λ p l. eq-eqb (byte_at d (item_from p)) 1 (w.kinds p l)),
       )
 
+-- only kind 1 is a statement
+pub kind_1 : (k c a b c' a' b' : ℕ) → item_of_bytes k c a b ≡ statement c' a' b' → k ≡ 1
+kind_1 k c a b c' a' b' e = grind (arith, nat_tests)
+
 -- an item of kind 1
 item_of_kind : (d : List ℕ) (p : ℕ) → byte_at d (item_from p) ≡ 1 → item_at d p ≡ as_item (statement_at d p)
 unfolding item_at
@@ -83,39 +84,6 @@ item_of_kind d p e = rw e
 
 -- only a loaded run passes
 module _ (d : List ℕ) (w : AsLoadedBytes d) where
-  owners_bare : owner_of d ≡ (λ x. none)
-  unfolding owner_of
-  owners_bare = fun_ext λ x. go x (ltb x most_unknowns) refl
-    where
-      go : (x : ℕ) (b : Bool) → ltb x most_unknowns ≡ b → pick b (owner_mark (byte_at d (owners_at + x))) none ≡ none
-      go x true e = ap owner_mark (w.marks (owners_at + x) (omega arith) (omega (arith, ltb-true x most_unknowns e)))
-      go x false e = refl
-
-  stores_bare : mark_of d ≡ (λ c x. nothing)
-  unfolding mark_of
-  stores_bare = fun_ext λ c. fun_ext λ x. go c x (ltb c most_cabinets && ltb x most_unknowns) refl
-    where
-      go : (c x : ℕ) (b : Bool) → (ltb c most_cabinets && ltb x most_unknowns) ≡ b → pick b (store_mark (byte_at d (store_from c + x))) nothing ≡ nothing
-      go c x true e =
-          let hc : c < most_cabinets = ltb-true c most_cabinets (fst_true (ltb c most_cabinets) (ltb x most_unknowns) e) in
-          let hx : x < most_unknowns = ltb-true x most_unknowns (snd_true (ltb c most_cabinets) (ltb x most_unknowns) e) in
-          ap store_mark (w.marks (store_from c + x) (omega arith) (omega arith))
-      go c x false e = refl
-
-  memos_bare : pair_of d ≡ (λ c x y. false)
-  unfolding pair_of
-  memos_bare = fun_ext λ c. fun_ext λ x. fun_ext λ y. go c x y (ltb c most_cabinets && (ltb x most_unknowns && ltb y most_unknowns)) refl
-    where
-      go : (c x y : ℕ) (b : Bool) → (ltb c most_cabinets && (ltb x most_unknowns && ltb y most_unknowns)) ≡ b
-          → pick b (eqb (byte_at d (memo_from c x y)) 1) false ≡ false
-      go c x y true e =
-          let hc : c < most_cabinets = ltb-true c most_cabinets (fst_true (ltb c most_cabinets) (ltb x most_unknowns && ltb y most_unknowns) e) in
-          let e' = snd_true (ltb c most_cabinets) (ltb x most_unknowns && ltb y most_unknowns) e in
-          let hx : x < most_unknowns = ltb-true x most_unknowns (fst_true (ltb x most_unknowns) (ltb y most_unknowns) e') in
-          let hy : y < most_unknowns = ltb-true y most_unknowns (snd_true (ltb x most_unknowns) (ltb y most_unknowns) e') in
-          ap (λ (n : ℕ). eqb n 1) (w.memos (memo_from c x y) (omega arith) (omega arith))
-      go c x y false e = refl
-
   items_are : items_from d (count_of d) 0 ≡ map as_item (list_from (statement_at d) (byte_at d statements_at) 0)
   items_are =
       ap (λ (n : ℕ). items_from d n 0) w.count
@@ -128,17 +96,14 @@ module _ (d : List ℕ) (w : AsLoadedBytes d) where
 
   -- its view is the paper's initial run of the statements that it holds
   pub as_loaded_run : run_of d ≡ initial (file_of d).statements
-  unfolding run_of state_of initial file_of
+  unfolding run_of initial file_of
   as_loaded_run =
       λ i.
       record {
         statements = sym (from_length (statement_at d) (byte_at d statements_at) 0) i;
-        state = record { clash = unclashed i; owner = owners_bare i; store = stores_bare i; memo = memos_bare i };
+        state = bare_state d w.running w.marks w.memos (file_of d).statements i;
         pending = items_are i;
       }
-    where
-      unclashed : clash_of d ≡ none
-      unclashed = rw w.running
 
   -- and its file is in range
   pub as_loaded_ok : Sound (table_of d) (run_of d) → FileOk (file_of d).table (file_of d).statements
@@ -164,46 +129,28 @@ module _ (d : List ℕ) (qs : List Statement) (run : run_of d ≡ initial qs) (z
 
   running : byte_at d clash_at ≡ 0
   unfolding state_of initial
-  running = go (eqb (byte_at d clash_at) 0) refl (ap (λ (σ : State). σ.clash) state_bare)
-    where
-      go : (b : Bool) → eqb (byte_at d clash_at) 0 ≡ b → pick b none (some (byte_at d clash_cabinet_at)) ≡ none → byte_at d clash_at ≡ 0
-      go true e h = eqb-true (byte_at d clash_at) 0 e
-      go false e h = absurd (let y : ◌≡◌ {A = ℕ} 0 1 = cc in omega arith)
-
-  bare_owner : (m : ℕ) → owner_mark m ≡ none → m ≡ 255
-  bare_owner m h = go (eqb m 255) refl h
-    where
-      go : (b : Bool) → eqb m 255 ≡ b → pick b none (some m) ≡ none → m ≡ 255
-      go true e h = eqb-true m 255 e
-      go false e h = absurd (let y : ◌≡◌ {A = ℕ} 0 1 = cc in omega arith)
-
-  bare_mark : (m : ℕ) → store_mark m ≡ nothing → m ≡ 255
-  bare_mark m h = go (eqb m 255) refl (eqb m 254) h
-    where
-      go : (b : Bool) → eqb m 255 ≡ b → (c : Bool) → pick b nothing (pick c initiated (entry m)) ≡ nothing → m ≡ 255
-      go true e c h = eqb-true m 255 e
-      go false e true h = absurd (let y : ◌≡◌ {A = ℕ} 0 1 = cc in omega arith)
-      go false e false h = absurd (let y : ◌≡◌ {A = ℕ} 0 1 = cc in omega arith)
+  running =
+      let e : clash_of d ≡ none = ap (λ (σ : State). σ.clash) state_bare in
+      grind (arith, nat_tests)
 
   owner_255 : (x : ℕ) → x < most_unknowns → byte_at d (owners_at + x) ≡ 255
   unfolding state_of initial owner_of
   owner_255 x h =
       let e : owner_of d x ≡ none = ap (λ (σ : State). σ.owner x) state_bare in
-      bare_owner (byte_at d (owners_at + x)) (rw (lt-ltb x most_unknowns h) at e)
+      grind (arith, nat_tests)
 
   store_255 : (c x : ℕ) → c < most_cabinets → x < most_unknowns → byte_at d (store_from c + x) ≡ 255
   unfolding state_of initial mark_of
   store_255 c x hc hx =
       let e : mark_of d c x ≡ nothing = ap (λ (σ : State). σ.store c x) state_bare in
-      bare_mark (byte_at d (store_from c + x)) (rw (lt-ltb c most_cabinets hc, lt-ltb x most_unknowns hx) at e)
+      grind (arith, nat_tests)
 
   memo_0 : (c x y : ℕ) → c < most_cabinets → x < most_unknowns → y < most_unknowns → byte_at d (memo_from c x y) ≡ 0
   unfolding state_of initial pair_of
   memo_0 c x y hc hx hy =
       let e : pair_of d c x y ≡ false = ap (λ (σ : State). σ.memo c x y) state_bare in
-      let f : eqb (byte_at d (memo_from c x y)) 1 ≡ false = rw (lt-ltb c most_cabinets hc, lt-ltb x most_unknowns hx, lt-ltb y most_unknowns hy) at e in
-      let ne : byte_at d (memo_from c x y) ≡ 1 → ⊥ = eqb-false (byte_at d (memo_from c x y)) 1 f in
-      omega (arith, z.memos c x y hc hx hy)
+      let z : byte_at d (memo_from c x y) ≤ 1 = z.memos c x y hc hx hy in
+      grind (arith, nat_tests)
 
   marks_255 : (i : ℕ) → owners_at ≤ i → i < memos_at → byte_at d i ≡ 255
   marks_255 i a b = go (ltb i stores_at) refl
@@ -239,9 +186,9 @@ module _ (d : List ℕ) (qs : List Statement) (run : run_of d ≡ initial qs) (z
 
   -- each item is the statement in its place
   each_item : (l : List Statement) (n p : ℕ) → list_from (item_at d) n p ≡ map as_item l → (k : ℕ) → p ≤ k → k < p + n → (q : Statement) × (item_at d k ≡ as_item q)
-  each_item [] zero p e k a b = absurd (let y : ⊥ = omega arith in y)
-  each_item [] (suc n) p e k a b = absurd (let y : ◌≡◌ {A = ℕ} 0 1 = cc in omega arith)
-  each_item (q ∷ l) zero p e k a b = absurd (let y : ⊥ = omega arith in y)
+  each_item [] zero p e k a b = absurd (omega arith)
+  each_item [] (suc n) p e k a b = absurd cc
+  each_item (q ∷ l) zero p e k a b = absurd (omega arith)
   each_item (q ∷ l) (suc n) p e k a b = go (ltb p k) refl (λ h. each_item l n (suc p) tail k h (omega arith))
     where
       first : item_at d p ≡ as_item q
@@ -254,19 +201,11 @@ module _ (d : List ℕ) (qs : List Statement) (run : run_of d ≡ initial qs) (z
       go true f later = later (ltb-true p k f)
       go false f later = let m : p ≡ k = omega (arith, ltb-false p k f) in (q, subst (λ (j : ℕ). item_at d j ≡ as_item q) m first)
 
-  kind_1 : (k c a b : ℕ) (q : Statement) → item_of_bytes k c a b ≡ as_item q → k ≡ 1
-  kind_1 k c a b q e = go (eqb k 1) refl (eqb k 2) e
-    where
-      go : (x : Bool) → eqb k 1 ≡ x → (y : Bool) → pick x (statement c a b) (pick y (ask c a b) (news c a b)) ≡ as_item q → k ≡ 1
-      go true f y g = eqb-true k 1 f
-      go false f true g = absurd (let w : ◌≡◌ {A = ℕ} 0 1 = cc in omega arith)
-      go false f false g = absurd (let w : ◌≡◌ {A = ℕ} 0 1 = cc in omega arith)
-
   kinds_1 : (p : ℕ) → p < byte_at d statements_at → byte_at d (item_from p) ≡ 1
   unfolding item_at
   kinds_1 p h =
       let w = each_item qs (count_of d) 0 pending_is p (omega arith) (omega (arith, count_is)) in
-      kind_1 (byte_at d (item_from p)) (byte_at d (item_from p + 1)) (byte_at d (item_from p + 2)) (byte_at d (item_from p + 3)) w.0 w.1
+      kind_1 (byte_at d (item_from p)) (byte_at d (item_from p + 1)) (byte_at d (item_from p + 2)) (byte_at d (item_from p + 3)) w.0.cabinet w.0.left w.0.right w.1
 
   pub initial_as_loaded : AsLoadedBytes d
   initial_as_loaded = record { running = running; count = count_is; marks = marks_255; memos = memos_0; kinds = kinds_1 }

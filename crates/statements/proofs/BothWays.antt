@@ -31,8 +31,8 @@ use Rattle.statements.proofs.AsLoaded.{AsLoadedBytes, as_loaded_out, as_loaded_i
 -- a statement is its item
 same_statements : (qs rs : List Statement) → map as_item qs ≡ map as_item rs → qs ≡ rs
 same_statements [] [] e = refl
-same_statements [] (r ∷ rs) e = absurd (let z : ◌≡◌ {A = ℕ} 0 1 = cc in omega arith)
-same_statements (q ∷ qs) [] e = absurd (let z : ◌≡◌ {A = ℕ} 0 1 = cc in omega arith)
+same_statements [] (r ∷ rs) e = absurd cc
+same_statements (q ∷ qs) [] e = absurd cc
 same_statements (q ∷ qs) (r ∷ rs) e =
     let h : as_item q ≡ as_item r = cc in
     let t : map as_item qs ≡ map as_item rs = cc in

@@ -1,4 +1,5 @@
 pub mod Again
+pub mod Bare
 pub mod Loaded
 pub mod AsLoaded
 pub mod BothWays

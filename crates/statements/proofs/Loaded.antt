@@ -35,6 +35,7 @@ use Rattle.layout.proofs.Canonical.{Canonical}
 use Rattle.layout.proofs.CanonicalKept.{appended_all_canonical}
 use Rattle.layout.proofs.SoundViews.{bytes_sound}
 use Rattle.statements.specs.Loads.{loaded_bytes}
+use Rattle.statements.proofs.Bare.{bare_state}
 
 -- the cleared buffer: 0 but for the marks
 abbrev before : List ℕ
@@ -260,7 +261,7 @@ records_filled (q ∷ qs) i v d a h f =
         λ j x y. w.beside.0 j x y ∙ written_before i q d f.long hi ok.count j (omega arith),
         λ j x y. w.beside.1 j x y ∙ written_after i q d f.long hi ok.count j (omega (arith, ok.count)),
       );
-      old = λ k l. w.old k (omega arith) ∙ written_other i q d f.long hi ok.count k (omega arith) (λ e. let z : ⊥ = omega arith in z) (f.few k l);
+      old = λ k l. w.old k (omega arith) ∙ written_other i q d f.long hi ok.count k (omega arith) (λ e. omega arith) (f.few k l);
       new = ap₂ (λ (p : Record) (l : List Record). p ∷ l) (w.old i (omega arith) ∙ written_record i q d f.long hi ok.count ok.symbol) w.new;
     }
 
@@ -292,8 +293,8 @@ module _ (s v r e : ℕ) where
   sized_filling =
       record {
         long = sized_long;
-        few = λ k h. absurd (let z : ⊥ = omega arith in z);
-        tail = λ k m h a b. absurd (let z : ⊥ = omega arith in z);
+        few = λ k h. absurd (omega arith);
+        tail = λ k m h a b. absurd (omega arith);
         free = λ j a b. sized_after j (omega arith) ∙ cleared_low j b;
       }
 
@@ -365,41 +366,7 @@ module _ (f : File) (ok : FileOk f.table f.statements) where
       filled.beside.0 i (omega arith) (omega arith) ∙ sized_before t.cabinets t.unknowns (length t.records) (length f.statements) i h
 
   state_is : state_of tabled ≡ (initial f.statements).state
-  unfolding state_of initial owner_of mark_of pair_of
-  state_is = λ j. record { clash = c j; owner = o j; store = m j; memo = p j }
-    where
-      c : clash_of tabled ≡ none
-      c = rw (low_0 clash_at (omega arith))
-
-      owner : (x : ℕ) (b : Bool) → ltb x most_unknowns ≡ b → pick b (owner_mark (byte_at tabled (owners_at + x))) none ≡ none
-      owner x true e = ap owner_mark (mark_255 (owners_at + x) (omega arith) (omega (arith, ltb-true x most_unknowns e)))
-      owner x false e = refl
-
-      o : owner_of tabled ≡ (λ x. none)
-      o = fun_ext λ x. owner x (ltb x most_unknowns) refl
-
-      mark : (z x : ℕ) (b : Bool) → (ltb z most_cabinets && ltb x most_unknowns) ≡ b → pick b (store_mark (byte_at tabled (store_from z + x))) nothing ≡ nothing
-      mark z x true e =
-          let hz : z < most_cabinets = ltb-true z most_cabinets (fst_true (ltb z most_cabinets) (ltb x most_unknowns) e) in
-          let hx : x < most_unknowns = ltb-true x most_unknowns (snd_true (ltb z most_cabinets) (ltb x most_unknowns) e) in
-          ap store_mark (mark_255 (store_from z + x) (omega arith) (omega arith))
-      mark z x false e = refl
-
-      m : mark_of tabled ≡ (λ z x. nothing)
-      m = fun_ext λ z. fun_ext λ x. mark z x (ltb z most_cabinets && ltb x most_unknowns) refl
-
-      pair : (z x y : ℕ) (b : Bool) → (ltb z most_cabinets && (ltb x most_unknowns && ltb y most_unknowns)) ≡ b
-          → pick b (eqb (byte_at tabled (memo_from z x y)) 1) false ≡ false
-      pair z x y true e =
-          let hz : z < most_cabinets = ltb-true z most_cabinets (fst_true (ltb z most_cabinets) (ltb x most_unknowns && ltb y most_unknowns) e) in
-          let e' = snd_true (ltb z most_cabinets) (ltb x most_unknowns && ltb y most_unknowns) e in
-          let hx : x < most_unknowns = ltb-true x most_unknowns (fst_true (ltb x most_unknowns) (ltb y most_unknowns) e') in
-          let hy : y < most_unknowns = ltb-true y most_unknowns (snd_true (ltb x most_unknowns) (ltb y most_unknowns) e') in
-          ap (λ (n : ℕ). eqb n 1) (rest_0 (memo_from z x y) (omega arith) (omega arith))
-      pair z x y false e = refl
-
-      p : pair_of tabled ≡ (λ z x y. false)
-      p = fun_ext λ z. fun_ext λ x. fun_ext λ y. pair z x y (ltb z most_cabinets && (ltb x most_unknowns && ltb y most_unknowns)) refl
+  state_is = bare_state tabled (low_0 clash_at (omega arith)) mark_255 (λ i a b. rest_0 i a (omega arith)) f.statements
 
   -- a run with everything but its pending items
   run_is : run_of tabled ≡ record { statements = length f.statements; state = (initial f.statements).state; pending = [] }
@@ -417,7 +384,7 @@ module _ (f : File) (ok : FileOk f.table f.statements) where
         records = λ i k h l m. filling.free (record_from i + k) (omega (arith, size 2 (omega arith))) (omega arith);
         parts = λ i k h l m. filling.tail i k (omega (arith, size 2 (omega arith))) l m;
         memos = λ c x y hc hx hy. omega (arith, rest_0 (memo_from c x y) (omega arith) (omega arith));
-        kinds = λ p h. absurd (let z : ⊥ = omega (arith, count_is_zero) in z);
+        kinds = λ p h. absurd (omega (arith, count_is_zero));
         items = λ i a b. rest_0 i (omega arith) b;
       }
 

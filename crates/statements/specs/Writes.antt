@@ -1,16 +1,18 @@
 -- What writing takes from a run's bytes: when a sound run is as loaded, the file that it is, and what the call leaves.
-use Rattle.std.specs.Prelude.{Bool, ◌&&◌, List, ◌++◌, ℕ, ◌+◌, ◌-◌, ◌≤◌, eqb, length}
+use Rattle.std.specs.Prelude.{◌≡◌, Bool, ◌&&◌, List, ◌++◌, ℕ, ◌+◌, ◌-◌, ◌≤◌, Result, Ok, Err, eqb, length}
 use Rattle.base.specs.Choice.{pick, all_below}
 use Rattle.base.specs.Lists.{list_from}
 use Rattle.base.specs.Puts.{PutFrom}
 use Rattle.paper.specs.Sizes.{longest_file}
-use Rattle.paper.specs.Refusals.{wrong_length, not_sound, not_as_loaded}
+use Rattle.paper.specs.Refusals.{wrong_length, not_sound, not_as_loaded, refusal_number}
+use Rattle.paper.specs.declared.refused.Refusal.{Refusal}
 use Rattle.paper.specs.Numbers.{number_bytes}
 use Rattle.paper.specs.Runs.{Statement}
 use Rattle.paper.specs.Files.{File, Read, got, fault, file_bytes, padded_file, read_file}
 use Rattle.layout.specs.Offsets.{clash_at, cabinets_at, unknowns_at, records_at, statements_at, owners_at, memos_at, pending_at, run_bytes, item_from}
 use Rattle.layout.specs.Fields.{byte_at, count_of, table_of}
 use Rattle.layout.specs.Soundness.{all_are, sound_bytes}
+use Rattle.statements.specs.declared.writing.Writer.{Writer}
 use Rattle.statements.specs.Loads.{loaded_bytes}
 
 -- the first n items are statements
@@ -36,14 +38,23 @@ file_of d = record { table = table_of d; statements = list_from (statement_at d)
 unfoldable pub sizes_bytes : List ℕ → List ℕ
 sizes_bytes d = number_bytes (byte_at d cabinets_at) ++ (number_bytes (byte_at d unknowns_at) ++ number_bytes (byte_at d records_at))
 
--- the run's file at the start of a buffer with room for it
-pub record FilePut (d before after : List ℕ) (next : ℕ) : Type 0 where
-  pub put : PutFrom 0 (file_bytes (file_of d)) before after next
-  pub fits : length (file_bytes (file_of d)) ≤ length before
+-- room for the bytes bs where the writer stands
+pub record HasRoom (bs : List ℕ) (w : Writer) : Type 0 where
+  pub fits : w.at + length bs ≤ length w.file.now
+
+-- the bytes bs put where the writer stood, which now stands after them, in the same file
+pub record Wrote (bs : List ℕ) (before after : Writer) : Type 0 where
+  pub put : PutFrom before.at bs before.file.now after.file.now after.at
+  pub same_file : after.file.ghost_name ≡ before.file.ghost_name
 
 -- number (0 for done, else the refusal), position or length, and the bytes of the lent buffer
 pub data Answer : Type 0 where
   answer : ℕ → ℕ → List ℕ → Answer
+
+-- a writer's result as its answer
+abbrev pub write_answer : Result ℕ Refusal → List ℕ → Answer
+write_answer (Ok n) m = answer 0 n m
+write_answer (Err e) m = answer (refusal_number e) 0 m
 
 -- "Writing: 12, 17, 19."; "needs exactly 836 bytes: the file, then zeros; its reply gives the file's length"
 unfoldable pub written_bytes : List ℕ → List ℕ → Answer

@@ -1,19 +1,24 @@
 -- `write_padded` meets its contract: the file fits, since every byte of the run is a byte.
-use Rattle.statements.proofs.WriteCalls.{file_fits_in, rest_left, rest_fits, padded_put}
+use Rattle.std.proofs.Common.{◌≡◌, ◌-◌}
+use Rattle.paper.specs.Sizes.{longest_file}
+use lib.ListN.{replicate}
+use Rattle.statements.proofs.WriteCalls.{file_has_room, end_is, end_fits, padded_put}
 use borrow.Author.Rules.{rules}
 use Rattle.statements.proofs.writing.write_padded.Goals as goal
 
-pub write_file-end-requires : goal.write_file-end-requires
-write_file-end-requires c = (search rules, search rules, search (file_fits_in, c.shared_slice_known-1.given))
+pub whole-requires : goal.whole-requires
+whole-requires c = search (file_has_room, c.fits-run, rules)
 
-pub overflow_sub-end : goal.overflow_sub-end
-overflow_sub-end c = search rest_left
+pub slice_bounds-fill-count : goal.slice_bounds-fill-count
+slice_bounds-fill-count c = search (end_fits, c.fits-run)
 
-pub fill-requires : goal.fill-requires
-fill-requires c = search rest_fits
+pub slice_bounds-fill-start : goal.slice_bounds-fill-start
+slice_bounds-fill-start c = search (end_fits, c.fits-run)
 
-pub returns : goal.returns
-returns c =
-    let long = c.requires.3 in
-    let w = c.write_file-end.ensures in
-    padded_put _ _ long _ _ w _ c.fill.ensures
+pub returns-clause-end : goal.returns-clause-end
+returns-clause-end c = search (end_is, c.fits-run)
+
+pub returns-clause-bytes : goal.returns-clause-bytes
+returns-clause-bytes c =
+    let e : c.fill.new.self ≡ replicate (longest_file - c.whole.new.self.at) 0 = search rules in
+    search (padded_put, c.fits-run)
