@@ -12,21 +12,13 @@ ghost use Rattle.maps.specs.Bytes.{mapped, map_bytes_of};
 mod replies; // replies.rt: what is replied to C
 
 use reading::Span;
-pub use replies::{ListReply, StepReply};
-use statements::{LoadReply, WriteReply};
-
-// The reply to a map call.
-#[repr(C)]
-#[derive(Clone, Copy)]
-pub struct MapReply {
-    pub number: usize,
-}
+pub use replies::{ListReply, LoadReply, MapReply, StepReply, WriteReply};
 
 // The file into the run: number and the fault's position.
 pub fn sc_load(file: &[u8], run: &mut [u8]) -> LoadReply
     ensures { answer result.number result.position run.new ≡ load_bytes file.now run.old }
 {
-    statements::load(file, run)
+    LoadReply::from(statements::load(file, run))
 }
 
 // Where statement n of the file stands: start and size, both 0 if the file is refused or has no statement n.
@@ -54,14 +46,12 @@ pub fn sc_steps(run: &mut [u8], places: &[u32]) -> ListReply
 pub fn sc_map(run: &[u8], map: &mut [u8]) -> MapReply
     ensures { mapped result.number map.new ≡ map_bytes_of run.now map.old }
 {
-    MapReply {
-        number: maps::map(run, map),
-    }
+    MapReply::from(maps::map(run, map))
 }
 
 // The run, if it is as loaded, back into its file: number and the file's length.
 pub fn sc_write(run: &[u8], file: &mut [u8]) -> WriteReply
     ensures { answer result.number result.length file.new ≡ written_bytes run.now file.old }
 {
-    statements::write(run, file)
+    WriteReply::from(statements::write(run, file))
 }

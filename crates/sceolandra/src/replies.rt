@@ -3,8 +3,33 @@ ghost use Rattle.std.specs.Prelude.{◌≡◌, MatchResult};
 ghost use Rattle.paper.specs.Refusals.{refusal_number};
 ghost use Rattle.rules.specs.Numbers.{rule_number};
 
-use paper::Refusal;
+use paper::{Fault, Refusal};
 use rules::{Rule, Stopped};
+
+// 0 and 0, or a refusal's number and the position of the fault.
+#[repr(C)]
+#[derive(Clone, Copy)]
+pub struct LoadReply {
+    pub number: usize,
+    pub position: usize,
+}
+
+impl From<Result<(), Fault>> for LoadReply {
+    ghost from_gives = { λ loaded reply. MatchResult loaded (λ _. (reply.number ≡ 0) × (reply.position ≡ 0)) (λ fault. (reply.number ≡ refusal_number fault.refusal) × (reply.position ≡ fault.at)) };
+
+    fn from(loaded: Result<(), Fault>) -> LoadReply {
+        match loaded {
+            Ok(()) => LoadReply {
+                number: 0,
+                position: 0,
+            },
+            Err(fault) => LoadReply {
+                number: fault.refusal.into(),
+                position: fault.at,
+            },
+        }
+    }
+}
 
 // 0 and the rule's number, or a refusal's number and 0.
 #[repr(C)]
@@ -48,6 +73,48 @@ impl From<Result<usize, Stopped>> for ListReply {
             Err(stopped) => ListReply {
                 number: stopped.refusal.into(),
                 done: stopped.done,
+            },
+        }
+    }
+}
+
+// 0, or a refusal's number.
+#[repr(C)]
+#[derive(Clone, Copy)]
+pub struct MapReply {
+    pub number: usize,
+}
+
+impl From<Result<(), Refusal>> for MapReply {
+    ghost from_gives = { λ mapped reply. MatchResult mapped (λ _. reply.number ≡ 0) (λ refusal. reply.number ≡ refusal_number refusal) };
+
+    fn from(mapped: Result<(), Refusal>) -> MapReply {
+        match mapped {
+            Ok(()) => MapReply { number: 0 },
+            Err(refusal) => MapReply {
+                number: refusal.into(),
+            },
+        }
+    }
+}
+
+// 0 and the file's length, or a refusal's number and 0.
+#[repr(C)]
+#[derive(Clone, Copy)]
+pub struct WriteReply {
+    pub number: usize,
+    pub length: usize,
+}
+
+impl From<Result<usize, Refusal>> for WriteReply {
+    ghost from_gives = { λ written reply. MatchResult written (λ length. (reply.number ≡ 0) × (reply.length ≡ length)) (λ refusal. (reply.number ≡ refusal_number refusal) × (reply.length ≡ 0)) };
+
+    fn from(written: Result<usize, Refusal>) -> WriteReply {
+        match written {
+            Ok(length) => WriteReply { number: 0, length },
+            Err(refusal) => WriteReply {
+                number: refusal.into(),
+                length: 0,
             },
         }
     }

@@ -9,8 +9,7 @@ ghost use Rattle.rules.specs.Bytes.{out, step_bytes, steps_bytes};
 ghost use Rattle.maps.specs.Bytes.{mapped, map_bytes_of};
 
 use reading::Span;
-use sceolandra::{ListReply, MapReply, StepReply};
-use statements::{LoadReply, WriteReply};
+use sceolandra::{ListReply, LoadReply, MapReply, StepReply, WriteReply};
 
 // The file into the run: number and the fault's position.
 #[unsafe(no_mangle)]
