@@ -1,15 +1,16 @@
 -- What a map call replies and leaves: one law for each refusal, in their order, and one for a map that is drawn.
 use mathlib.Core.Path.{◌≡◌, refl, sym, ap, ◌∙◌}
-use mathlib.Core.Bool.{Bool, true, false}
+use mathlib.Core.Bool.{Bool, true, false, not}
 use mathlib.Core.List.{List}
 use Prim.Native.Nat.{ℕ}
-use borrow.Author.Tests.{eq-eqb, ne_eqb}
+use borrow.Author.Tests.{eq-eqb, ne_eqb, not-true, not-false}
+use lib.Dec.{eqb}
 use lib.ListN.{length}
 use Rattle.std.specs.Array.{IsWholeChunk}
 use Rattle.paper.specs.Refusals.{wrong_length, has_clashed, items_pending, not_sound}
 use Rattle.layout.specs.Offsets.{clash_at, run_bytes, map_bytes}
 use Rattle.layout.specs.Fields.{byte_at, count_of, table_of, run_of}
-use Rattle.layout.specs.Given.{Reads, byte_limit, count_limit}
+use Rattle.layout.specs.Given.{Reads, count_limit}
 use Rattle.layout.specs.Soundness.{sound_bytes}
 use Rattle.layout.specs.MapRows.{map_of}
 use Rattle.maps.specs.Bytes.{mapped, drawn_map, map_bytes_of}
@@ -33,20 +34,23 @@ module _ (d m : List ℕ) where
       unfolding map_bytes_of
       unsound_refused t = rw (u.same, eq-eqb (length d) run_bytes w.long, eq-eqb (length m) map_bytes u.long, ← tested, t)
 
-      module _ (t : b ≡ true) (c : ℕ) (r : Reads (byte_at d' clash_at) byte_limit c) where
+      module _ (t : b ≡ true) (c : Bool) (r : c ≡ not (eqb (byte_at d' clash_at) 0)) where
         drawn_map_lem : map_bytes_of d m ≡ drawn_map d' m'
         unfolding map_bytes_of
         drawn_map_lem = rw (w.same, u.same, eq-eqb (length d) run_bytes w.long, eq-eqb (length m) map_bytes u.long, ← tested, t) refl
 
-        pub clash_refused : (c ≡ 0 → ⊥) → mapped has_clashed m' ≡ map_bytes_of d m
+        pub clash_refused : c ≡ true → mapped has_clashed m' ≡ map_bytes_of d m
         unfolding drawn_map
-        clash_refused n = sym (drawn_map_lem ∙ rw (← r.same, ne_eqb c 0 n) refl)
+        clash_refused n = sym (drawn_map_lem ∙ rw (not-true (eqb (byte_at d' clash_at) 0) (sym r ∙ n)) refl)
 
-        module _ (z : c ≡ 0) (p : ℕ) (q : Reads (count_of d') count_limit p) where
+        module _ (z : c ≡ false) (p : ℕ) (q : Reads (count_of d') count_limit p) where
+          running : eqb (byte_at d' clash_at) 0 ≡ true
+          running = not-false (eqb (byte_at d' clash_at) 0) (sym r ∙ z)
+
           pub pending_refused : (p ≡ 0 → ⊥) → mapped items_pending m' ≡ map_bytes_of d m
           unfolding drawn_map
-          pending_refused n = sym (drawn_map_lem ∙ rw (← r.same, ← q.same, eq-eqb c 0 z, ne_eqb p 0 n) refl)
+          pending_refused n = sym (drawn_map_lem ∙ rw (running, ← q.same, ne_eqb p 0 n) refl)
 
           pub map_made : (l : List ℕ) → p ≡ 0 → l ≡ map_of (table_of d') (run_of d') → mapped 0 l ≡ map_bytes_of d m
           unfolding drawn_map
-          map_made l n e' = ap (mapped 0) e' ∙ sym (drawn_map_lem ∙ rw (← r.same, ← q.same, eq-eqb c 0 z, eq-eqb p 0 n) refl)
+          map_made l n e' = ap (mapped 0) e' ∙ sym (drawn_map_lem ∙ rw (running, ← q.same, eq-eqb p 0 n) refl)

@@ -23,7 +23,7 @@ pub fn map(run: &[u8], map: &mut [u8]) -> Result<(), Refusal>
     if !soundness::sound(run) {
         return Err(Refusal::NotSound);
     }
-    if layout::clash_byte(run) != 0 {
+    if layout::has_clashed(run) {
         return Err(Refusal::HasClashed);
     }
     if layout::count(run) != 0 {

@@ -11,8 +11,8 @@ returns-in_default-as_mut_array c = search (map_length_refused, c.in-Some.ensure
 pub returns-then-not-sound : goal.returns-then-not-sound
 returns-then-not-sound c = search (unsound_refused, c.in-Some.ensures.cases, c.in-Some-as_mut_array.ensures.cases)
 
-pub returns-then-clash_byte-ne0 : goal.returns-then-clash_byte-ne0
-returns-then-clash_byte-ne0 c = search (clash_refused, c.in-Some.ensures.cases, c.in-Some-as_mut_array.ensures.cases)
+pub returns-then-has_clashed : goal.returns-then-has_clashed
+returns-then-has_clashed c = search (clash_refused, c.in-Some.ensures.cases, c.in-Some-as_mut_array.ensures.cases)
 
 pub returns-then-count-ne0 : goal.returns-then-count-ne0
 returns-then-count-ne0 c = search (pending_refused, c.in-Some.ensures.cases, c.in-Some-as_mut_array.ensures.cases)
