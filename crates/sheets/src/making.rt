@@ -32,21 +32,13 @@ fn statement(bytes: &[u8]) -> Line {
     let n = pieces::number(bytes, 0);
     let file = pieces::rest(bytes, 2);
     let span = sceolandra::sc_statement(file, n);
-    Line {
-        number: span.start as u64,
-        value: span.size as u64,
-        hash: pieces::hash(reading::statement(file, n)),
-    }
+    Line::new(span.start, span.size, reading::statement(file, n))
 }
 
 // Print: a file. What the map program prints of it comes before the line.
 fn print(out: &impl Print, bytes: &[u8]) -> io::Result<Line> {
     mapping::print_file(out, bytes)?;
-    Ok(Line {
-        number: bytes.len() as u64,
-        value: 0,
-        hash: pieces::hash(bytes),
-    })
+    Ok(Line::new(bytes.len(), 0, bytes))
 }
 
 // The buffers that the calls are lent, in whole or in part.
@@ -62,22 +54,14 @@ impl Lent {
     fn load(&mut self, bytes: &[u8]) -> Line {
         let n = pieces::number(bytes, 0).min(RUN_SPACE);
         let reply = sceolandra::sc_load(pieces::rest(bytes, 2), &mut self.run[..n]);
-        Line {
-            number: reply.number as u64,
-            value: reply.position as u64,
-            hash: pieces::hash(&self.run),
-        }
+        Line::new(reply.number, reply.position, &self.run)
     }
 
     // Step: how much of the run is lent (2), the place (2).
     fn step(&mut self, bytes: &[u8]) -> Line {
         let n = pieces::number(bytes, 0).min(RUN_SPACE);
         let reply = sceolandra::sc_step(&mut self.run[..n], pieces::number(bytes, 2));
-        Line {
-            number: reply.number as u64,
-            value: reply.rule as u64,
-            hash: pieces::hash(&self.run),
-        }
+        Line::new(reply.number, reply.rule, &self.run)
     }
 
     // List: how much of the run is lent (2), the places (2 each).
@@ -86,11 +70,7 @@ impl Lent {
         let mut places = [0u32; LIST_SPACE];
         let places = read_places(pieces::rest(bytes, 2), &mut places);
         let reply = sceolandra::sc_steps(&mut self.run[..n], places);
-        Line {
-            number: reply.number as u64,
-            value: reply.done as u64,
-            hash: pieces::hash(&self.run),
-        }
+        Line::new(reply.number, reply.done, &self.run)
     }
 
     // Map: how much of the run is lent (2), how much of the map (2).
@@ -99,11 +79,7 @@ impl Lent {
         let k = pieces::number(bytes, 2).min(MAP_SPACE);
         let Lent { run, map, .. } = self;
         let reply = sceolandra::sc_map(&run[..n], &mut map[..k]);
-        Line {
-            number: reply.number as u64,
-            value: 0,
-            hash: pieces::hash(map),
-        }
+        Line::new(reply.number, 0, map)
     }
 
     // Write: how much of the run is lent (2), how much of the file (2).
@@ -112,20 +88,12 @@ impl Lent {
         let k = pieces::number(bytes, 2).min(FILE_SPACE);
         let Lent { run, file, .. } = self;
         let reply = sceolandra::sc_write(&run[..n], &mut file[..k]);
-        Line {
-            number: reply.number as u64,
-            value: reply.length as u64,
-            hash: pieces::hash(file),
-        }
+        Line::new(reply.number, reply.length, file)
     }
 
     // The run's hash alone, with no numbers.
     fn hashed(&self) -> Line {
-        Line {
-            number: 0,
-            value: 0,
-            hash: pieces::hash(&self.run),
-        }
+        Line::new(0, 0, &self.run)
     }
 
     // Poke: where (2), how many bytes of the run are laid (2), the pattern that is laid over and over; an empty one lays nothing.
