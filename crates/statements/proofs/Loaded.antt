@@ -1,11 +1,10 @@
 -- What loading leaves views as the paper's initial run of the file's table and statements, and is sound.
 use mathlib.Core.Path.{◌≡◌, refl, sym, subst, ap, ap₂, ◌∙◌}
-use mathlib.Core.Logic.{◌⊎◌, inl, inr, ⊎_elim, ◌≢◌}
+use mathlib.Core.Logic.{◌⊎◌, inl, inr, ◌≢◌}
 use mathlib.Core.Bool.{true}
 use mathlib.Core.List.{List, [], ◌∷◌, ◌++◌, map}
 use Prim.Native.Nat.{ℕ, zero, suc, ◌+◌, ◌-◌, ◌*◌, ◌/◌, ◌^◌, ◌≤◌, ◌<◌}
 use native.Mathlib.Nat.{pow-suc, zero-add}
-use native.Mathlib.Decide.{ℕ_discrete}
 use Rattle.std.proofs.Common.{arith}
 use Rattle.std.proofs.lemmas.Grind.{common_steps}
 use lib.ListN.{length, get_or, replicate, length-replicate, length-append, length-map, get_or-append}
@@ -141,8 +140,9 @@ module _ (i : ℕ) (q : Record) (d : List ℕ) (long : length d ≡ run_bytes) (
 
   written_part : (k : ℕ) → k < length q.parts → part_of (with_record i q d) i k ≡ get_or q.parts k 0
   written_part k h =
-      let e : record_from i + symbol_bytes + 1 + k ≡ record_from i + (symbol_bytes + 1 + k) = omega arith in
-      ap (byte_at (with_record i q d)) e ∙ written_in (symbol_bytes + 1 + k) (omega arith) ∙ in_parts k
+      let w = written_in (symbol_bytes + 1 + k) in
+      let p = in_parts k in
+      grind arith
 
   -- the record read back is the record written
   written_record : q.symbol < number_limit → record_of (with_record i q d) i ≡ q
@@ -158,15 +158,12 @@ module _ (i : ℕ) (q : Record) (d : List ℕ) (long : length d ≡ run_bytes) (
   written_other k hk ne c = λ j. record { symbol = ap value_of symbols j; parts = parts j }
     where
       outside : (m : ℕ) → m < record_bytes → byte_at (with_record i q d) (record_from k + m) ≡ byte_at d (record_from k + m)
-      outside m h =
-          ⊎_elim (λ (l : k < i). written_before (record_from k + m) (omega arith)) (λ (l : i ≤ k). written_after (record_from k + m) (omega arith)) (lt_or_le k i)
+      outside m h = let b = written_before (record_from k + m) in let a = written_after (record_from k + m) in grind arith
 
       symbols : get (record_from k) symbol_bytes (with_record i q d) ≡ get (record_from k) symbol_bytes d
       symbols =
           get_same (record_from k) symbol_bytes d (with_record i q d) (omega (arith, long)) (omega (arith, written_long, long))
-          (λ m a b.
-          let e : record_from k + (m - record_from k) ≡ m = omega arith in
-          subst (λ (n : ℕ). byte_at (with_record i q d) n ≡ byte_at d n) e (outside (m - record_from k) (omega arith)))
+          (λ m a b. let o = outside (m - record_from k) in grind arith)
 
       count : part_count_of (with_record i q d) k ≡ part_count_of d k
       count = outside symbol_bytes (omega arith)
@@ -175,9 +172,7 @@ module _ (i : ℕ) (q : Record) (d : List ℕ) (long : length d ≡ run_bytes) (
       parts =
           rw count
           (from_same (part_of d k) (part_of (with_record i q d) k) (part_count_of d k) 0
-          (λ m a b.
-          let e : record_from k + (symbol_bytes + 1 + m) ≡ record_from k + symbol_bytes + 1 + m = omega arith in
-          subst (λ (n : ℕ). byte_at (with_record i q d) n ≡ byte_at d n) e (outside (symbol_bytes + 1 + m) (omega arith))))
+          (λ m a b. let o = outside (symbol_bytes + 1 + m) in grind arith))
 
 -- what stands in the table while records are written: those before i, and 0 from there on
 pub record Filling (i : ℕ) (d : List ℕ) : Type 0 where
@@ -200,29 +195,24 @@ pub one_filled : (i : ℕ) (q : Record) (v : ℕ) (d : List ℕ) → RecordOk v 
 one_filled i q v d ok hi f =
     record {
       long = written_long i q d f.long hi ok.count ∙ f.long;
-      few = λ k h. few k h (ℕ_discrete k i);
-      tail = λ k m h a b. tail k m h a b (ℕ_discrete k i);
+      few = λ k h.
+          let c = written_count i q d f.long hi ok.count in
+          let b = before_here k symbol_bytes in
+          let g = f.few k in
+          grind arith;
+      tail = λ k m h a b.
+          let c = written_count i q d f.long hi ok.count in
+          let x = before_here k symbol_bytes in
+          let y = before_here k (symbol_bytes + 1 + m) in
+          let z = written_after i q d f.long hi ok.count (record_from i + symbol_bytes + 1 + m) in
+          let t = f.tail k m in
+          let g = f.free (record_from i + symbol_bytes + 1 + m) in
+          grind arith;
       free = λ j a b. written_after i q d f.long hi ok.count j (omega (arith, ok.count)) ∙ f.free j (omega arith) b;
     }
   where
     before_here : (k j : ℕ) → k < i → j < record_bytes → byte_at (with_record i q d) (record_from k + j) ≡ byte_at d (record_from k + j)
     before_here k j h l = written_before i q d f.long hi ok.count (record_from k + j) (omega arith)
-
-    few : (k : ℕ) → k < suc i → Dec (k ≡ i) → part_count_of (with_record i q d) k ≤ most_parts
-    few k h (yes e) = subst (λ (n : ℕ). part_count_of (with_record i q d) n ≤ most_parts) (sym e) (omega (arith, written_count i q d f.long hi ok.count, ok.count))
-    few k h (no e) = omega (arith, before_here k symbol_bytes (omega arith) (omega arith), f.few k (omega arith))
-
-    tail : (k m : ℕ) → k < suc i → part_count_of (with_record i q d) k ≤ m → m < most_parts → Dec (k ≡ i) → part_of (with_record i q d) k m ≡ 0
-    tail k m h a b (yes e) =
-        subst (λ (n : ℕ). part_count_of (with_record i q d) n ≤ m → part_of (with_record i q d) n m ≡ 0) (sym e)
-        (λ a'.
-        written_after i q d f.long hi ok.count (record_from i + symbol_bytes + 1 + m) (omega (arith, written_count i q d f.long hi ok.count))
-        ∙ f.free (record_from i + symbol_bytes + 1 + m) (omega arith) (omega arith))
-        a
-    tail k m h a b (no e) =
-        let e' : record_from k + (symbol_bytes + 1 + m) ≡ record_from k + symbol_bytes + 1 + m = omega arith in
-        subst (λ (n : ℕ). byte_at (with_record i q d) n ≡ byte_at d n) e' (before_here k (symbol_bytes + 1 + m) (omega arith) (omega arith))
-        ∙ f.tail k m (omega arith) (omega (arith, before_here k symbol_bytes (omega arith) (omega arith))) b
 
 pub records_filled : (qs : List Record) (i v : ℕ) (d : List ℕ) → All (RecordOk v) qs → i + length qs ≤ most_records → Filling i d
     → Filled i qs d (with_records i qs d)
