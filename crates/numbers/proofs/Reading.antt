@@ -13,16 +13,19 @@ use mir.Val.{Fits}
 use borrow.Author.Tests.{lt-ltb, le-ltb, le-leb, lt-leb, ltb-true, leb-true}
 use Rattle.base.specs.Choice.{pick}
 use Rattle.base.proofs.Tests.{fst_true, snd_true}
+use Rattle.std.specs.Prelude.{Result, Ok, Err, IsErr}
+use Rattle.std.proofs.Math.Bool.{and-false}
+use Rattle.paper.specs.declared.refused.Fault.{Fault}
+use Rattle.paper.specs.declared.Found.{Found}
+use Rattle.paper.specs.Found.{as_read as read_as}
 use Rattle.paper.specs.Sizes.{most_groups, top_group, number_limit}
 use Rattle.paper.specs.Refusals.{file_ends, bad_number}
-use Rattle.paper.specs.Numbers.{largest, above, groups_from, number_at, within, ranged_at}
-use Rattle.paper.specs.declared.Num.{Num}
-use Rattle.paper.specs.declared.Num.TheVariants.{Got, Refused}
+use Rattle.paper.specs.Numbers.{Read, got, fault, largest, above, groups_from, number_at, within, ranged_at}
 use Rattle.numbers.proofs.Limits.{limit, limit_some, limit_up}
 
 -- what the groups from `at` on come to: at most `left` groups at `at` of a number that starts at `from`
 module _ (left top least : ℕ) (s : List ℕ) (from at : ℕ) where
-  no_group_left : left ≡ 0 → Refused bad_number from ≡ groups_from left top least s from at
+  no_group_left : left ≡ 0 → fault bad_number from ≡ groups_from left top least s from at
   unfolding groups_from
   no_group_left e = rw e refl
 
@@ -30,25 +33,25 @@ module _ (left top least : ℕ) (s : List ℕ) (from at : ℕ) where
     one_at_least : left ≡ suc (left - 1)
     one_at_least = omega arith
 
-    file_ends_lem : length s ≤ at → Refused file_ends from ≡ groups_from left top least s from at
+    file_ends_lem : length s ≤ at → fault file_ends from ≡ groups_from left top least s from at
     unfolding groups_from
     file_ends_lem h = rw one_at_least (simp (le-ltb _ _ h))
 
     module _ (inside : at < length s) (b : ℕ) (e : b ≡ get_or s at 0) where
-      not_shortest : b < 128 → b < least → Refused bad_number from ≡ groups_from left top least s from at
+      not_shortest : b < 128 → b < least → fault bad_number from ≡ groups_from left top least s from at
       unfolding groups_from
       not_shortest h1 h2 = rw (one_at_least, ← e) (simp (lt-ltb _ _ inside, lt-ltb _ _ h1, lt-leb _ _ h2))
 
       module _ (most : ℕ) (m : most ≡ largest (left - 1) top) (h1 : b < 128) (h2 : least ≤ b) where
-        too_large : most < b → Refused bad_number from ≡ groups_from left top least s from at
+        too_large : most < b → fault bad_number from ≡ groups_from left top least s from at
         unfolding groups_from
         too_large h3 = rw (one_at_least, ← e, ← m) (simp (lt-ltb _ _ inside, lt-ltb _ _ h1, le-leb _ _ h2, lt-leb _ _ h3))
 
-        group_ends : b ≤ most → Got b (at + 1) ≡ groups_from left top least s from at
+        group_ends : b ≤ most → got b (at + 1) ≡ groups_from left top least s from at
         unfolding groups_from
         group_ends h3 = rw (one_at_least, ← e, ← m) (simp (lt-ltb _ _ inside, lt-ltb _ _ h1, le-leb _ _ h2, le-leb _ _ h3))
 
-      another_follows : 128 ≤ b → (x : Num) → x ≡ groups_from (left - 1) top 1 s from (at + 1) → above (b % 128) x ≡ groups_from left top least s from at
+      another_follows : 128 ≤ b → (x : Read ℕ) → x ≡ groups_from (left - 1) top 1 s from (at + 1) → above (b % 128) x ≡ groups_from left top least s from at
       unfolding groups_from
       another_follows h x f = rw (one_at_least, ← e, ← f) (simp (lt-ltb _ _ inside, le-ltb _ _ h))
 
@@ -63,11 +66,11 @@ record Inside (k top : ℕ) (s : List ℕ) (at n next : ℕ) : Type 0 where
   pub past : at < next
   pub ends : next ≤ length s
 
-never : {k p n next : ℕ} {A : Type 0} → Refused k p ≡ Got n next → A
+never : {k p n next : ℕ} {A : Type 0} → ◌≡◌ {A = Read ℕ} (fault k p) (got n next) → A
 never e = let z : ◌≡◌ {A = ℕ} 0 1 = cc in absurd (omega arith)
 
 -- what a choice that came out as a number chose
-pick_got : (b : Bool) (x : Num) (k p n next : ℕ) → pick b x (Refused k p) ≡ Got n next → (b ≡ true) × (x ≡ Got n next)
+pick_got : (b : Bool) (x : Read ℕ) (k p n next : ℕ) → pick b x (fault k p) ≡ got n next → (b ≡ true) × (x ≡ got n next)
 pick_got true x k p n next e = (refl, e)
 pick_got false x k p n next e = never e
 
@@ -75,9 +78,9 @@ pick_cases : {A : Type 0} (b : Bool) (x y z : A) → pick b x y ≡ z → ((b �
 pick_cases true x y z e = inl (refl, e)
 pick_cases false x y z e = inr (refl, e)
 
-above_got : (d : ℕ) (x : Num) (n next : ℕ) → above d x ≡ Got n next → (m : ℕ) × (x ≡ Got m next) × (n ≡ d + 128 * m)
-above_got d (Got m p) n next e = (m, cc, (cc))
-above_got d (Refused k p) n next e = never e
+above_got : (d : ℕ) (x : Read ℕ) (n next : ℕ) → above d x ≡ got n next → (m : ℕ) × (x ≡ got m next) × (n ≡ d + 128 * m)
+above_got d (got m p) n next e = (m, cc, (cc))
+above_got d (fault k p) n next e = never e
 
 below_limit : (k top b : ℕ) → b < 128 → b ≤ largest k top → b < limit k top
 unfolding limit
@@ -86,8 +89,8 @@ below_limit (suc k) top b h c = let p = limit_some k top in omega arith
 
 module _ (top : ℕ) (s : List ℕ) (from : ℕ) where
   -- a read takes a byte, which ends the number or has the rest of it after it
-  one_group : (k least at n next : ℕ) → groups_from (suc k) top least s from at ≡ Got n next
-      → ((m : ℕ) → groups_from k top 1 s from (at + 1) ≡ Got m next → n ≡ get_or s at 0 % 128 + 128 * m → Inside k top s at n next)
+  one_group : (k least at n next : ℕ) → groups_from (suc k) top least s from at ≡ got n next
+      → ((m : ℕ) → groups_from k top 1 s from (at + 1) ≡ got m next → n ≡ get_or s at 0 % 128 + 128 * m → Inside k top s at n next)
       → Inside k top s at n next
   unfolding groups_from
   one_group k least at n next e more =
@@ -98,14 +101,14 @@ module _ (top : ℕ) (s : List ℕ) (from : ℕ) where
       (pick_cases (ltb (get_or s at 0) 128) _ _ _ p.1)
     where
       ended : at < length s → get_or s at 0 < 128
-          → ((leb least (get_or s at 0) && leb (get_or s at 0) (largest k top)) ≡ true) × (Got (get_or s at 0) (at + 1) ≡ Got n next) → Inside k top s at n next
+          → ((leb least (get_or s at 0) && leb (get_or s at 0) (largest k top)) ≡ true) × (got (get_or s at 0) (at + 1) ≡ got n next) → Inside k top s at n next
       ended h b g =
           let en : get_or s at 0 ≡ n = cc in
           let ep : at + 1 ≡ next = cc in
           let l = below_limit k top (get_or s at 0) b (leb-true _ _ (snd_true (leb least (get_or s at 0)) _ g.0)) in
           record { small = omega arith; past = omega arith; ends = omega arith }
 
-  groups_inside : (k least at n next : ℕ) → groups_from (suc k) top least s from at ≡ Got n next → Inside k top s at n next
+  groups_inside : (k least at n next : ℕ) → groups_from (suc k) top least s from at ≡ got n next → Inside k top s at n next
   unfolding groups_from limit
   groups_inside zero least at n next e = one_group zero least at n next e (λ m g q. never g)
   groups_inside (suc k) least at n next e =
@@ -114,9 +117,9 @@ module _ (top : ℕ) (s : List ℕ) (from : ℕ) where
       record { small = omega arith; past = omega arith; ends = i.ends }
 
 -- groups that were read before what follows: they come to n, and what follows counts `scale` times
-abbrev pub joined : ℕ → ℕ → Num → Num
-joined n scale (Got m next) = Got (n + scale * m) next
-joined n scale (Refused k p) = Refused k p
+abbrev pub joined : ℕ → ℕ → Read ℕ → Read ℕ
+joined n scale (got m next) = got (n + scale * m) next
+joined n scale (fault k p) = fault k p
 
 -- the loop of `number_at`: the groups before `here` are read
 pub record SoFar (s : List ℕ) (at n scale least left here : ℕ) : Type 0 where
@@ -129,42 +132,42 @@ pub none_read : (s : List ℕ) (at : ℕ) → SoFar s at 0 1 0 most_groups at
 unfolding number_at limit
 none_read s at = record { same = alone (groups_from most_groups top_group 0 s at at); few = omega arith; scaled = refl; below = omega arith }
   where
-    alone : (x : Num) → joined 0 1 x ≡ x
-    alone (Got m next) = ap (λ (k : ℕ). Got k next) (let z : 0 + 1 * m ≡ m = omega arith in z)
-    alone (Refused k p) = refl
+    alone : (x : Read ℕ) → joined 0 1 x ≡ x
+    alone (got m next) = ap (λ (k : ℕ). got k next) (let z : 0 + 1 * m ≡ m = omega arith in z)
+    alone (fault k p) = refl
 
 -- a group before what follows joins those before it
-joined_above : (n scale d : ℕ) (x : Num) → joined n scale (above d x) ≡ joined (n + scale * d) (scale * 128) x
-joined_above n scale d (Got m next) =
-    ap (λ (k : ℕ). Got k next)
+joined_above : (n scale d : ℕ) (x : Read ℕ) → joined n scale (above d x) ≡ joined (n + scale * d) (scale * 128) x
+joined_above n scale d (got m next) =
+    ap (λ (k : ℕ). got k next)
     (ap (λ (k : ℕ). n + k) (mul-add scale d (128 * m) ∙ ap (λ (k : ℕ). scale * d + k) (sym (mul_assoc scale 128 m))) ∙ sym (add_assoc n (scale * d) (scale * 128 * m)))
-joined_above n scale d (Refused k p) = refl
+joined_above n scale d (fault k p) = refl
 
 module _ (s : List ℕ) (at n scale least left here : ℕ) (h : SoFar s at n scale least left here) where
   -- what is read of the rest is what is read of all
-  as_read : (x : Num) → x ≡ groups_from left top_group least s at here → joined n scale x ≡ number_at s at
+  as_read : (x : Read ℕ) → x ≡ groups_from left top_group least s at here → joined n scale x ≡ number_at s at
   as_read x e = ap (joined n scale) e ∙ h.same
 
-  pub all_read : left ≤ 0 → Refused bad_number at ≡ number_at s at
-  all_read l = as_read (Refused bad_number at) (no_group_left left top_group least s at here (omega arith))
+  pub all_read : left ≤ 0 → fault bad_number at ≡ number_at s at
+  all_read l = as_read (fault bad_number at) (no_group_left left top_group least s at here (omega arith))
 
   module _ (l : 0 < left) where
     some : left ≡ 0 → ⊥
     some e = omega arith
 
-    pub cut_short : length s ≤ here → Refused file_ends at ≡ number_at s at
-    cut_short k = as_read (Refused file_ends at) (file_ends_lem left top_group least s at here some k)
+    pub cut_short : length s ≤ here → fault file_ends at ≡ number_at s at
+    cut_short k = as_read (fault file_ends at) (file_ends_lem left top_group least s at here some k)
 
     module _ (inside : here < length s) (b : ℕ) (e : b ≡ get_or s here 0) where
-      pub longer_than_need : b < 128 → b < least → Refused bad_number at ≡ number_at s at
-      longer_than_need h1 h2 = as_read (Refused bad_number at) (not_shortest left top_group least s at here some inside b e h1 h2)
+      pub longer_than_need : b < 128 → b < least → fault bad_number at ≡ number_at s at
+      longer_than_need h1 h2 = as_read (fault bad_number at) (not_shortest left top_group least s at here some inside b e h1 h2)
 
       module _ (h1 : b < 128) (h2 : least ≤ b) (most : ℕ) (m : most ≡ largest (left - 1) top_group) where
-        pub over_the_limit : most < b → Refused bad_number at ≡ number_at s at
-        over_the_limit h3 = as_read (Refused bad_number at) (too_large left top_group least s at here some inside b e most m h1 h2 h3)
+        pub over_the_limit : most < b → fault bad_number at ≡ number_at s at
+        over_the_limit h3 = as_read (fault bad_number at) (too_large left top_group least s at here some inside b e most m h1 h2 h3)
 
-        pub number_ends : b ≤ most → Got (n + scale * b) (here + 1) ≡ number_at s at
-        number_ends h3 = as_read (Got b (here + 1)) (group_ends left top_group least s at here some inside b e most m h1 h2 h3)
+        pub number_ends : b ≤ most → got (n + scale * b) (here + 1) ≡ number_at s at
+        number_ends h3 = as_read (got b (here + 1)) (group_ends left top_group least s at here some inside b e most m h1 h2 h3)
 
   -- the products and sums fit into 64 bits
   small_scale : 0 < left → scale ≤ limit 4 0
@@ -208,40 +211,41 @@ module _ (s : List ℕ) (at n scale least left here : ℕ) (h : SoFar s at n sca
       }
 
 -- the ways out of `ranged_at`
-module _ (low below j : ℕ) (s : List ℕ) (at : ℕ) (x : Num) (e : x ≡ number_at s at) where
-  pub ranged_refused : (k p : ℕ) → x ≡ Refused k p → x ≡ ranged_at low below j s at
+module _ (low below j : ℕ) (s : List ℕ) (at : ℕ) where
+  pub ranged_refused : (x : Result (Found ℕ) Fault) → IsErr x → read_as x ≡ number_at s at → read_as x ≡ ranged_at low below j s at
   unfolding ranged_at
-  ranged_refused k p g = rw (← e) (rw g refl)
+  ranged_refused (Ok x) h e = cc
+  ranged_refused (Err f) h e = rw (← e) refl
 
-  module _ (n next : ℕ) (g : x ≡ Got n next) where
-    read_in_range : pick (leb low n && ltb n below) (Got n next) (Refused j at) ≡ ranged_at low below j s at
+  module _ (n next : ℕ) (e : got n next ≡ number_at s at) where
+    read_in_range : pick (leb low n && ltb n below) (got n next) (fault j at) ≡ ranged_at low below j s at
     unfolding ranged_at
-    read_in_range = rw (← e) (rw g refl)
+    read_in_range = rw (← e) refl
 
-    pub ranged_low : n < low → Refused j at ≡ ranged_at low below j s at
+    pub ranged_low : n < low → fault j at ≡ ranged_at low below j s at
     ranged_low h = rw (lt-leb _ _ h) at read_in_range
 
-    pub ranged_high : low ≤ n → below ≤ n → Refused j at ≡ ranged_at low below j s at
-    ranged_high h1 h2 = rw (le-leb _ _ h1, le-ltb _ _ h2) at read_in_range
+    pub ranged_high : below ≤ n → fault j at ≡ ranged_at low below j s at
+    ranged_high h = rw (le-ltb _ _ h, and-false) at read_in_range
 
-    pub ranged_got : low ≤ n → n < below → Got n next ≡ ranged_at low below j s at
+    pub ranged_got : low ≤ n → n < below → got n next ≡ ranged_at low below j s at
     ranged_got h1 h2 = rw (le-leb _ _ h1, lt-ltb _ _ h2) at read_in_range
 
 -- what callers ask of a number that was read
-pub number_next : (s : List ℕ) (at n next : ℕ) → number_at s at ≡ Got n next → (at < next) × (next ≤ length s) × (n < number_limit)
+pub number_next : (s : List ℕ) (at n next : ℕ) → number_at s at ≡ got n next → (at < next) × (next ≤ length s) × (n < number_limit)
 unfolding number_at limit
 number_next s at n next e = let i = groups_inside top_group s at 4 0 at n next e in (i.past, i.ends, i.small)
 
-within_got : (low below k at : ℕ) (x : Num) (n next : ℕ) → within low below k at x ≡ Got n next → (x ≡ Got n next) × (low ≤ n) × (n < below)
-within_got low below k at (Got m p) n next e =
-    let q = pick_got (leb low m && ltb m below) (Got m p) k at n next e in
+within_got : (low below k at : ℕ) (x : Read ℕ) (n next : ℕ) → within low below k at x ≡ got n next → (x ≡ got n next) × (low ≤ n) × (n < below)
+within_got low below k at (got m p) n next e =
+    let q = pick_got (leb low m && ltb m below) (got m p) k at n next e in
     let en : m ≡ n = cc in
     let l : low ≤ m = leb-true _ _ (fst_true _ _ q.0) in
     let b : m < below = ltb-true _ _ (snd_true (leb low m) _ q.0) in
     (q.1, omega arith, omega arith)
-within_got low below k at (Refused j p) n next e = never e
+within_got low below k at (fault j p) n next e = never e
 
-pub ranged_next : (low below k : ℕ) (s : List ℕ) (at n next : ℕ) → ranged_at low below k s at ≡ Got n next
+pub ranged_next : (low below k : ℕ) (s : List ℕ) (at n next : ℕ) → ranged_at low below k s at ≡ got n next
     → (at < next) × (next ≤ length s) × (low ≤ n) × (n < below)
 unfolding ranged_at
 ranged_next low below k s at n next e =
@@ -250,6 +254,6 @@ ranged_next low below k s at n next e =
     (i.0, i.1, w.1, w.2)
 
 -- one of them with premises as they stand in code
-module _ (low below k : ℕ) (s : List ℕ) (at n next : ℕ) (x : Num) (e : x ≡ ranged_at low below k s at) (g : x ≡ Got n next) where
+module _ (low below k : ℕ) (s : List ℕ) (at n next : ℕ) (x : Read ℕ) (e : x ≡ ranged_at low below k s at) (g : x ≡ got n next) where
   pub ranged_below : n < below
   ranged_below = (ranged_next low below k s at n next (sym e ∙ g)).3

@@ -5,16 +5,11 @@
 ghost use Rattle.std.specs.Prelude.{◌≡◌, ◌+◌, ◌≤◌, ◌<◌, length};
 ghost use Rattle.base.specs.Puts.{PutFrom};
 ghost use Rattle.paper.specs.Sizes.{top_group, number_limit};
+ghost use Rattle.paper.specs.Refusals.{refusal_number};
 ghost use Rattle.paper.specs.Numbers.{largest, number_at, ranged_at, number_bytes};
+ghost use Rattle.paper.specs.Found.{as_read};
 
-use paper::{Num, refusal, sizes};
-
-// A byte as a wide number, so that its readers need not show that it fits.
-fn wide(x: u8) -> u64
-    ensures { result ≡ x }
-{
-    x as u64
-}
+use paper::{Fault, Found, Refusal, sizes};
 
 // The largest group that may end a number with `more` groups allowed after it.
 fn largest_end(more: usize) -> u64
@@ -23,54 +18,63 @@ fn largest_end(more: usize) -> u64
     if more == 0 { sizes::TOP_GROUP } else { 127 }
 }
 
-// The number at `at`. The groups before `here` come to n; what follows counts `scale` times and has at most `left` groups. The
-// ending group is at least `least`: 0 for a number's first group and 1 for a later one, which gives the shortest form.
-pub fn number_at(s: &[u8], at: usize) -> Num
-    ensures { result ≡ number_at s.now at }
+// The number at `at`. The groups before `here` come to `value`; what follows counts `scale` times, and after the group at `here`
+// at most `more` may follow. The ending group is at least `least`: 0 for a number's first group and 1 for a later one, which
+// gives the shortest form.
+pub fn number_at(s: &[u8], at: usize) -> Result<Found<u64>, Fault>
+    ensures { as_read result ≡ number_at s.now at }
 {
-    let mut n: u64 = 0;
+    let mut value: u64 = 0;
     let mut scale: u64 = 1;
     let mut least: u64 = 0;
-    let mut left: usize = sizes::MOST_GROUPS;
     let mut here = at;
-    while left > 0 {
+    for more in (0..sizes::MOST_GROUPS).rev() {
         if s.len() <= here {
-            return Num::Refused(refusal::FILE_ENDS, at);
+            return Err(Fault {
+                refusal: Refusal::FileEnds,
+                at,
+            });
         }
-        let group = wide(s[here]);
+        let group = u64::from(s[here]);
         if group < 128 {
-            if group < least {
-                return Num::Refused(refusal::BAD_NUMBER, at);
+            if group < least || largest_end(more) < group {
+                return Err(Fault {
+                    refusal: Refusal::BadNumber,
+                    at,
+                });
             }
-            if largest_end(left - 1) < group {
-                return Num::Refused(refusal::BAD_NUMBER, at);
-            }
-            return Num::Got(n + scale * group, here + 1);
+            return Ok(Found {
+                value: value + scale * group,
+                next: here + 1,
+            });
         }
-        n += scale * (group % 128);
+        value += scale * (group % 128);
         scale *= 128;
         least = 1;
-        left -= 1;
         here += 1;
     }
-    Num::Refused(refusal::BAD_NUMBER, at)
+    Err(Fault {
+        refusal: Refusal::BadNumber,
+        at,
+    })
 }
 
 // The number at `at`, refused by `refusal` unless it is at least `low` and below `below`.
-pub fn ranged_at(s: &[u8], at: usize, low: u64, below: u64, refusal: usize) -> Num
-    ensures { result ≡ ranged_at low below refusal s.now at }
+pub fn ranged_at(
+    s: &[u8],
+    at: usize,
+    low: u64,
+    below: u64,
+    refusal: Refusal,
+) -> Result<Found<u64>, Fault>
+    ensures { as_read result ≡ ranged_at low below (refusal_number refusal) s.now at }
 {
-    let read = number_at(s, at);
-    let Num::Got(n, next) = read else {
-        return read;
-    };
-    if n < low {
-        return Num::Refused(refusal, at);
+    let number = number_at(s, at)?;
+    if (low..below).contains(&number.value) {
+        Ok(number)
+    } else {
+        Err(Fault { refusal, at })
     }
-    if below <= n {
-        return Num::Refused(refusal, at);
-    }
-    Num::Got(n, next)
 }
 
 // The groups of `n` at `at` in `buf`, and the position after them. They are not counted: a number below

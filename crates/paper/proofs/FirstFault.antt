@@ -9,13 +9,10 @@ use lib.Dec.{ltb}
 use lib.ListN.{length}
 use Rattle.base.specs.Choice.{pick}
 use Rattle.paper.specs.Refusals.{bytes_left}
-use Rattle.paper.specs.Numbers.{ranged_at}
-use Rattle.paper.specs.Files.{Form, end, next, File, Read, got, fault, onward, reading, ended, file_form, read_file}
+use Rattle.paper.specs.Numbers.{Read, got, fault, ranged_at}
+use Rattle.paper.specs.Files.{Form, end, next, File, onward, reading, ended, file_form, read_file}
 use Rattle.paper.specs.Faults.{FirstFault, malformed, outside, later, FileFault, inside, left_over}
-use Rattle.paper.specs.declared.Num.{Num}
-use Rattle.paper.specs.declared.Num.TheVariants.{Got, Refused}
-use Rattle.paper.proofs.NumberCodec.{Ranged, inside as in_range, outside as out_of_range, malformed as no_number, ranged, ranged_is}
-use Rattle.paper.proofs.Forms.{fault_got}
+use Rattle.paper.proofs.NumberCodec.{fault_got, Ranged, inside as in_range, outside as out_of_range, malformed as no_number, ranged, ranged_is}
 
 -- what holds of one refusal and position holds of the same
 same_fault : {A : Type 0} (P : ℕ → ℕ → Type 0) {j k p q : ℕ} → ◌≡◌ {A = Read A} (fault j p) (fault k q) → P j p → P k q
@@ -31,11 +28,11 @@ module _ {A : Type 0} (s : List ℕ) where
   refused_first (next low below j g) at k p e =
       go (ranged_at low below j s at) (λ n to d. refused_first (g n) to k p d) (ranged low below j s at (ranged_at low below j s at) refl) e
     where
-      go : (x : Num) → ((n to : ℕ) → reading (g n) s to ≡ fault k p → FirstFault s (g n) to k p) → Ranged low below j s at x
+      go : (x : Read ℕ) → ((n to : ℕ) → reading (g n) s to ≡ fault k p → FirstFault s (g n) to k p) → Ranged low below j s at x
           → onward x (λ n to. reading (g n) s to) ≡ fault k p → FirstFault s (next low below j g) at k p
-      go (Got n to) ih (in_range d l h) e = later d l h (ih n to e)
-      go (Refused i q) ih (out_of_range d h) e = same_fault (FirstFault s (next low below j g) at) e (outside d h)
-      go (Refused i q) ih (no_number d) e = same_fault (FirstFault s (next low below j g) at) e (malformed d)
+      go (got n to) ih (in_range d l h) e = later d l h (ih n to e)
+      go (fault i q) ih (out_of_range d h) e = same_fault (FirstFault s (next low below j g) at) e (outside d h)
+      go (fault i q) ih (no_number d) e = same_fault (FirstFault s (next low below j g) at) e (malformed d)
 
   -- and its first fault is what it is refused with
   pub first_refused : {m : Form A} {at k p : ℕ} → FirstFault s m at k p → reading m s at ≡ fault k p

@@ -7,11 +7,9 @@ use lib.ListN.{length, drop, length-append}
 use Rattle.base.specs.Lists.{All, Bytes}
 use Rattle.base.proofs.Positions.{append_after, drop_past}
 use Rattle.paper.specs.Sizes.{number_limit}
-use Rattle.paper.specs.Numbers.{ranged_at, number_bytes}
-use Rattle.paper.specs.Files.{Form, end, next, ◌>>=◌, number, times, Read, got, fault, onward, reading, each}
-use Rattle.paper.specs.declared.Num.{Num}
-use Rattle.paper.specs.declared.Num.TheVariants.{Got, Refused}
-use Rattle.paper.proofs.NumberCodec.{number_there, number_back, Ranged, inside, ranged, ranged_is}
+use Rattle.paper.specs.Numbers.{Read, got, fault, ranged_at, number_bytes}
+use Rattle.paper.specs.Files.{Form, end, next, ◌>>=◌, number, times, onward, reading, each}
+use Rattle.paper.proofs.NumberCodec.{fault_got, number_there, number_back, Ranged, inside, ranged, ranged_is}
 
 module _ {A B : Type 0} where
   -- a reading, and then what its value leads to
@@ -25,12 +23,12 @@ module _ {A B : Type 0} where
   reading_bind (end a) f s at = refl
   reading_bind (next low below k g) f s at = go (ranged_at low below k s at) (λ n to. reading_bind (g n) f s to)
     where
-      go : (x : Num)
+      go : (x : Read ℕ)
           → ((n to : ℕ) → reading (g n >>= f) s to ≡ and_then (reading (g n) s to) (λ a to'. reading (f a) s to'))
           → onward x (λ n to. reading (g n >>= f) s to)
           ≡ and_then (onward x (λ n to. reading (g n) s to)) (λ a to. reading (f a) s to)
-      go (Got n to) ih = ih n to
-      go (Refused j p) ih = refl
+      go (got n to) ih = ih n to
+      go (fault j p) ih = refl
 
 -- the bytes spell a value of the form: its numbers, each in its range, one after the other
 pub data Spells {A : Type 0} : Form A → List ℕ → A → Type 0 where
@@ -69,10 +67,6 @@ pub record FormRead {A : Type 0} (m : Form A) (s : List ℕ) (at : ℕ) (a : A) 
   pub bytes : drop at s ≡ part ++ drop to s
   pub ends : to ≡ at + length part
 
--- what is refused is not read
-pub fault_got : {A : Type 0} {a : A} {k p at : ℕ} → fault k p ≡ got a at → ⊥
-fault_got e = let z : ◌≡◌ {A = ℕ} 0 1 = cc in omega arith
-
 module _ {A : Type 0} (s : List ℕ) where
   -- bytes that spell a value are read as it
   pub spelt_read : {m : Form A} {b : List ℕ} {a : A} → Spells m b a → (at : ℕ) (r : List ℕ) → drop at s ≡ b ++ r
@@ -93,9 +87,9 @@ module _ {A : Type 0} (s : List ℕ) where
   read_spelt y (next low below k g) at a to e =
       go (ranged_at low below k s at) (λ n t d. read_spelt y (g n) t a to d) (ranged low below k s at (ranged_at low below k s at) refl) e
     where
-      go : (x : Num) → ((n t : ℕ) → reading (g n) s t ≡ got a to → FormRead (g n) s t a to) → Ranged low below k s at x
+      go : (x : Read ℕ) → ((n t : ℕ) → reading (g n) s t ≡ got a to → FormRead (g n) s t a to) → Ranged low below k s at x
           → onward x (λ n t. reading (g n) s t) ≡ got a to → FormRead (next low below k g) s at a to
-      go (Got n t) ih (inside d l h) e =
+      go (got n t) ih (inside d l h) e =
           let w = number_back s at n t y d in
           let i = ih n t e in
           record {
@@ -104,7 +98,7 @@ module _ {A : Type 0} (s : List ℕ) where
             bytes = rw append_assoc (w.bytes ∙ append_after (number_bytes n) i.bytes);
             ends = omega (arith, w.ends, i.ends, length-append (number_bytes n) i.part);
           }
-      go (Refused j p) ih v e = absurd (fault_got e)
+      go (fault j p) ih v e = absurd (fault_got e)
 
 module _ {A B : Type 0} where
   -- bytes that spell a value of one form and then another: where they part

@@ -7,7 +7,8 @@ use native.Mathlib.Omega.{arith}
 use Rattle.paper.specs.Refusals.{bad_number, bad_cabinets, bad_unknowns, bad_records, too_many_parts, part_not_unknown, too_many_statements, no_such_cabinet, no_such_entry}
 use Rattle.paper.specs.Tables.{Table}
 use Rattle.paper.specs.Faults.{FirstFault, malformed, outside, later, FileFault, inside, left_over}
-use Rattle.paper.specs.Files.{Form, end, next, ◌>>=◌, times, record_form, table_form, statement_form, count_form, file_form, fault, read_file}
+use Rattle.paper.specs.Numbers.{fault}
+use Rattle.paper.specs.Files.{Form, end, next, ◌>>=◌, times, record_form, table_form, statement_form, count_form, file_form, read_file}
 use Rattle.paper.proofs.NumberCodec.{number_refusals}
 use Rattle.paper.proofs.FirstFault.{refused_is_first_fault}
 

@@ -14,9 +14,7 @@ use Rattle.base.proofs.Tests.{fst_true, snd_true}
 use Rattle.base.proofs.Positions.{element_at, drop_at_element}
 use Rattle.paper.specs.Sizes.{most_groups, top_group, number_limit}
 use Rattle.paper.specs.Refusals.{file_ends, bad_number}
-use Rattle.paper.specs.Numbers.{largest, above, groups_from, number_at, within, ranged_at, groups_of, number_bytes}
-use Rattle.paper.specs.declared.Num.{Num}
-use Rattle.paper.specs.declared.Num.TheVariants.{Got, Refused}
+use Rattle.paper.specs.Numbers.{Read, got, fault, largest, above, groups_from, number_at, within, ranged_at, groups_of, number_bytes}
 
 -- what k groups hold, with a last group of at most `top`
 abbrev pub limit : ℕ → ℕ → ℕ
@@ -30,12 +28,12 @@ limit_pos zero top = omega arith
 limit_pos (suc k) top = omega (arith, limit_pos k top)
 
 -- one step of reading, by what stands there: no byte, an ending group that is fit or not, or a group that another follows
-pub data Group (k top least : ℕ) (s : List ℕ) (from at : ℕ) : Num → Type 0 where
-  cut : length s ≤ at → Group k top least s from at (Refused file_ends from)
-  unfit : at < length s → get_or s at 0 < 128 → Group k top least s from at (Refused bad_number from)
+pub data Group (k top least : ℕ) (s : List ℕ) (from at : ℕ) : Read ℕ → Type 0 where
+  cut : length s ≤ at → Group k top least s from at (fault file_ends from)
+  unfit : at < length s → get_or s at 0 < 128 → Group k top least s from at (fault bad_number from)
   last : at < length s → get_or s at 0 < 128 → least ≤ get_or s at 0 → get_or s at 0 ≤ largest k top
-      → Group k top least s from at (Got (get_or s at 0) (at + 1))
-  first : at < length s → 128 ≤ get_or s at 0 → (x : Num) → groups_from k top 1 s from (at + 1) ≡ x
+      → Group k top least s from at (got (get_or s at 0) (at + 1))
+  first : at < length s → 128 ≤ get_or s at 0 → (x : Read ℕ) → groups_from k top 1 s from (at + 1) ≡ x
       → Group k top least s from at (above (get_or s at 0 % 128) x)
 
 module _ (k top least : ℕ) (s : List ℕ) (from at : ℕ) where
@@ -50,8 +48,8 @@ module _ (k top least : ℕ) (s : List ℕ) (from at : ℕ) where
       go : (p : Bool) → ltb at (length s) ≡ p → (q : Bool) → ltb b 128 ≡ q
           → (c : Bool) → (leb least b && leb b (largest k top)) ≡ c
           → Group k top least s from at
-          (pick p (pick q (pick c (Got b (at + 1)) (Refused bad_number from)) (above (b % 128) (groups_from k top 1 s from (at + 1))))
-          (Refused file_ends from))
+          (pick p (pick q (pick c (got b (at + 1)) (fault bad_number from)) (above (b % 128) (groups_from k top 1 s from (at + 1))))
+          (fault file_ends from))
       go false h q d c e = cut (ltb-false at (length s) h)
       go true h true d false e = unfit (ltb-true at (length s) h) (ltb-true b 128 d)
       go true h true d true e =
@@ -61,7 +59,7 @@ module _ (k top least : ℕ) (s : List ℕ) (from at : ℕ) where
 
   -- an ending group that is fit is the number, and one that another follows goes in front of it
   group_ends : (b : ℕ) → at < length s → get_or s at 0 ≡ b → b < 128 → least ≤ b → b ≤ largest k top
-      → groups_from (suc k) top least s from at ≡ Got b (at + 1)
+      → groups_from (suc k) top least s from at ≡ got b (at + 1)
   unfolding groups_from
   group_ends b h e l m n = rw (e, lt-ltb at (length s) h, lt-ltb b 128 l, le-leb least b m, le-leb b (largest k top) n)
 
@@ -71,12 +69,12 @@ module _ (k top least : ℕ) (s : List ℕ) (from at : ℕ) where
   group_goes_on b h e l = rw (e, lt-ltb at (length s) h, le-ltb b 128 l)
 
 -- the same number and the same end
-same_got : {m n p q : ℕ} → m ≡ n → p ≡ q → Got m p ≡ Got n q
+same_got : {m n p q : ℕ} → m ≡ n → p ≡ q → got m p ≡ got n q
 same_got e d = rw (e, d)
 
 -- a number written in at most k groups is read as that number, up to where it ends
 pub groups_there : (k top least : ℕ) (s : List ℕ) (from at n : ℕ) (r : List ℕ) → top < 128 → n < limit k top → least ≤ n
-    → drop at s ≡ groups_of k n ++ r → groups_from k top least s from at ≡ Got n (at + length (groups_of k n))
+    → drop at s ≡ groups_of k n ++ r → groups_from k top least s from at ≡ got n (at + length (groups_of k n))
 groups_there zero top least s from at n r t h l e = absurd (let z : ⊥ = omega arith in z)
 groups_there (suc zero) top least s from at n r t h l e =
     let i = element_at s at 0 e in
@@ -86,9 +84,9 @@ groups_there (suc (suc k)) top least s from at n r t h l e =
   where
     go : (b : Bool) → ltb n 128 ≡ b → drop at s ≡ pick b (n ∷ []) ((128 + n % 128) ∷ groups_of (suc k) (n / 128)) ++ r
         → (128 ≤ n → drop (at + 1) s ≡ groups_of (suc k) (n / 128) ++ r
-        → groups_from (suc k) top 1 s from (at + 1) ≡ Got (n / 128) (at + 1 + length (groups_of (suc k) (n / 128))))
+        → groups_from (suc k) top 1 s from (at + 1) ≡ got (n / 128) (at + 1 + length (groups_of (suc k) (n / 128))))
         → groups_from (suc (suc k)) top least s from at
-        ≡ Got n (at + length (pick b (n ∷ []) ((128 + n % 128) ∷ groups_of (suc k) (n / 128))))
+        ≡ got n (at + length (pick b (n ∷ []) ((128 + n % 128) ∷ groups_of (suc k) (n / 128))))
     go true d e ih =
         let i = element_at s at 0 e in
         let m = ltb-true n 128 d in
@@ -119,15 +117,15 @@ one_group_small (suc k) top n h l = omega (arith, limit_pos k top)
 more_groups : (k n : ℕ) → 128 ≤ n → groups_of (suc (suc k)) n ≡ (128 + n % 128) ∷ groups_of (suc k) (n / 128)
 more_groups k n h = rw (le-ltb n 128 h)
 
--- what is refused is not got
-pub refused_got : {k p n next : ℕ} → Refused k p ≡ Got n next → ⊥
-refused_got e = let z : ◌≡◌ {A = ℕ} 0 1 = cc in omega arith
+-- what is refused is not read
+pub fault_got : {A : Type 0} {a : A} {k p at : ℕ} → fault k p ≡ got a at → ⊥
+fault_got e = let z : ◌≡◌ {A = ℕ} 0 1 = cc in omega arith
 
 -- bytes read as a number of at most k groups are those of that number
 pub groups_back : (k top least : ℕ) (s : List ℕ) (from at n next : ℕ) → least ≤ 128 → Bytes s
-    → groups_from k top least s from at ≡ Got n next → GroupsRead k top least s at n next
+    → groups_from k top least s from at ≡ got n next → GroupsRead k top least s at n next
 unfolding groups_from
-groups_back zero top least s from at n next l a e = absurd (refused_got e)
+groups_back zero top least s from at n next l a e = absurd (fault_got e)
 groups_back (suc k) top least s from at n next l a e =
     go (groups_from (suc k) top least s from at) (group k top least s from at) e
     (λ m d. groups_back k top 1 s from (at + 1) m next (omega arith) a d)
@@ -162,40 +160,40 @@ groups_back (suc k) top least s from at n next l a e =
           shortest = omega arith;
         }
 
-    go : (x : Num) → Group k top least s from at x → x ≡ Got n next
-        → ((m : ℕ) → groups_from k top 1 s from (at + 1) ≡ Got m next → GroupsRead k top 1 s (at + 1) m next)
+    go : (x : Read ℕ) → Group k top least s from at x → x ≡ got n next
+        → ((m : ℕ) → groups_from k top 1 s from (at + 1) ≡ got m next → GroupsRead k top 1 s (at + 1) m next)
         → GroupsRead (suc k) top least s at n next
-    go x (cut h) e ih = absurd (refused_got e)
-    go x (unfit h d) e ih = absurd (refused_got e)
+    go x (cut h) e ih = absurd (fault_got e)
+    go x (unfit h d) e ih = absurd (fault_got e)
     go x (last h d m t) e ih =
         let v : b ≡ n = cc in
         let o : at + 1 ≡ next = cc in
         subst (λ (w : ℕ). GroupsRead (suc k) top least s at w next) v
         (subst (GroupsRead (suc k) top least s at b) o (ends_here h d m t))
-    go x (first h d (Refused j p) r) e ih = absurd (refused_got e)
-    go x (first h d (Got m to) r) e ih =
+    go x (first h d (fault j p) r) e ih = absurd (fault_got e)
+    go x (first h d (got m to) r) e ih =
         let v : b % 128 + 128 * m ≡ n = cc in
         let o : to ≡ next = cc in
-        goes_on k m h d v (ih m (r ∙ ap (Got m) o))
+        goes_on k m h d v (ih m (r ∙ ap (got m) o))
 
 -- a refused number is refused with 1 or 2, and with the position where it starts
-groups_refused : (k top least : ℕ) (s : List ℕ) (from at : ℕ) {j p : ℕ} → groups_from k top least s from at ≡ Refused j p
+groups_refused : (k top least : ℕ) (s : List ℕ) (from at : ℕ) {j p : ℕ} → groups_from k top least s from at ≡ fault j p
     → (p ≡ from) × ((j ≡ file_ends) ⊎ (j ≡ bad_number))
 unfolding groups_from
 groups_refused zero top least s from at e = (cc, inr cc)
 groups_refused (suc k) top least s from at {j} {p} e =
     go (groups_from (suc k) top least s from at) (group k top least s from at) e (λ d. groups_refused k top 1 s from (at + 1) d)
   where
-    go : (x : Num) → Group k top least s from at x → x ≡ Refused j p
-        → (groups_from k top 1 s from (at + 1) ≡ Refused j p → (p ≡ from) × ((j ≡ file_ends) ⊎ (j ≡ bad_number)))
+    go : (x : Read ℕ) → Group k top least s from at x → x ≡ fault j p
+        → (groups_from k top 1 s from (at + 1) ≡ fault j p → (p ≡ from) × ((j ≡ file_ends) ⊎ (j ≡ bad_number)))
         → (p ≡ from) × ((j ≡ file_ends) ⊎ (j ≡ bad_number))
     go x (cut h) e ih = (cc, inl cc)
     go x (unfit h d) e ih = (cc, inr cc)
-    go x (last h d m t) e ih = absurd (refused_got (sym e))
-    go x (first h d (Got m to) r) e ih = absurd (refused_got (sym e))
-    go x (first h d (Refused i q) r) e ih = ih (r ∙ e)
+    go x (last h d m t) e ih = absurd (fault_got (sym e))
+    go x (first h d (got m to) r) e ih = absurd (fault_got (sym e))
+    go x (first h d (fault i q) r) e ih = ih (r ∙ e)
 
-module _ (s : List ℕ) (at : ℕ) {j p : ℕ} (e : number_at s at ≡ Refused j p) where
+module _ (s : List ℕ) (at : ℕ) {j p : ℕ} (e : number_at s at ≡ fault j p) where
   -- "the position where the faulty number starts"
   pub number_refused_at : p ≡ at
   unfolding number_at
@@ -207,7 +205,7 @@ module _ (s : List ℕ) (at : ℕ) {j p : ℕ} (e : number_at s at ≡ Refused j
 
 -- a number of at most 4,294,967,295 written is read as that number
 pub number_there : (s : List ℕ) (at n : ℕ) (r : List ℕ) → n < number_limit → drop at s ≡ number_bytes n ++ r
-    → number_at s at ≡ Got n (at + length (number_bytes n))
+    → number_at s at ≡ got n (at + length (number_bytes n))
 unfolding number_at number_bytes
 number_there s at n r h e = groups_there most_groups top_group 0 s at at n r (omega arith) h (omega arith) e
 
@@ -219,7 +217,7 @@ pub record NumberRead (s : List ℕ) (at n next : ℕ) : Type 0 where
   pub small : n < number_limit
 
 -- bytes read as a number are those of that number
-pub number_back : (s : List ℕ) (at n next : ℕ) → Bytes s → number_at s at ≡ Got n next → NumberRead s at n next
+pub number_back : (s : List ℕ) (at n next : ℕ) → Bytes s → number_at s at ≡ got n next → NumberRead s at n next
 unfolding number_at number_bytes
 number_back s at n next a e =
     let w = groups_back most_groups top_group 0 s at at n next (omega arith) a e in
@@ -259,31 +257,31 @@ module _ (n : ℕ) where
   number_one h = ap length (one_group 4 n h)
 
 -- "Each number's range is tested as soon as it is read": what a number with a range can be
-pub data Ranged (low below k : ℕ) (s : List ℕ) (at : ℕ) : Num → Type 0 where
-  inside : {n to : ℕ} → number_at s at ≡ Got n to → low ≤ n → n < below → Ranged low below k s at (Got n to)
-  outside : {n to : ℕ} → number_at s at ≡ Got n to → (n < low) ⊎ (below ≤ n) → Ranged low below k s at (Refused k at)
-  malformed : {j : ℕ} → number_at s at ≡ Refused j at → Ranged low below k s at (Refused j at)
+pub data Ranged (low below k : ℕ) (s : List ℕ) (at : ℕ) : Read ℕ → Type 0 where
+  inside : {n to : ℕ} → number_at s at ≡ got n to → low ≤ n → n < below → Ranged low below k s at (got n to)
+  outside : {n to : ℕ} → number_at s at ≡ got n to → (n < low) ⊎ (below ≤ n) → Ranged low below k s at (fault k at)
+  malformed : {j : ℕ} → number_at s at ≡ fault j at → Ranged low below k s at (fault j at)
 
 module _ (low below k : ℕ) (s : List ℕ) (at : ℕ) where
   -- a number with a range is read as one of these
-  pub ranged : (x : Num) → ranged_at low below k s at ≡ x → Ranged low below k s at x
+  pub ranged : (x : Read ℕ) → ranged_at low below k s at ≡ x → Ranged low below k s at x
   unfolding ranged_at
   ranged x e = subst (Ranged low below k s at) e (go (number_at s at) refl)
     where
-      tested : (n to : ℕ) → number_at s at ≡ Got n to → (p q : Bool) → leb low n ≡ p → ltb n below ≡ q
-          → Ranged low below k s at (pick (p && q) (Got n to) (Refused k at))
+      tested : (n to : ℕ) → number_at s at ≡ got n to → (p q : Bool) → leb low n ≡ p → ltb n below ≡ q
+          → Ranged low below k s at (pick (p && q) (got n to) (fault k at))
       tested n to e true true d c = inside e (leb-true low n d) (ltb-true n below c)
       tested n to e true false d c = outside e (inr (ltb-false n below c))
       tested n to e false q d c = outside e (inl (leb-false low n d))
 
-      go : (y : Num) → number_at s at ≡ y → Ranged low below k s at (within low below k at y)
-      go (Got n to) e = tested n to e (leb low n) (ltb n below) refl refl
-      go (Refused j p) e =
+      go : (y : Read ℕ) → number_at s at ≡ y → Ranged low below k s at (within low below k at y)
+      go (got n to) e = tested n to e (leb low n) (ltb n below) refl refl
+      go (fault j p) e =
           let o : p ≡ at = number_refused_at s at e in
-          subst (λ (q : ℕ). Ranged low below k s at (Refused j q)) (sym o) (malformed (e ∙ ap (Refused j) o))
+          subst (λ (q : ℕ). Ranged low below k s at (fault j q)) (sym o) (malformed (e ∙ ap (fault j) o))
 
   -- and each of these is how it is read
-  pub ranged_is : {x : Num} → Ranged low below k s at x → ranged_at low below k s at ≡ x
+  pub ranged_is : {x : Read ℕ} → Ranged low below k s at x → ranged_at low below k s at ≡ x
   unfolding ranged_at
   ranged_is (inside {n} {to} e l h) = rw (e, le-leb low n l, lt-ltb n below h)
   ranged_is (outside {n} {to} e (inl h)) = rw (e, lt-leb low n h)

@@ -12,10 +12,8 @@ use Rattle.base.specs.Lists.{All, Bytes}
 use Rattle.base.proofs.Positions.{drop_at_element}
 use Rattle.paper.specs.Sizes.{most_groups, top_group, number_limit}
 use Rattle.paper.specs.Refusals.{file_ends, bad_number}
-use Rattle.paper.specs.Numbers.{groups_from, number_at, number_bytes}
-use Rattle.paper.specs.declared.Num.{Num}
-use Rattle.paper.specs.declared.Num.TheVariants.{Got, Refused}
-use Rattle.paper.proofs.NumberCodec.{Group, cut, unfit, last, first, group, group_goes_on, refused_got, number_refused_at, number_refusals, number_there, number_back}
+use Rattle.paper.specs.Numbers.{Read, got, fault, groups_from, number_at, number_bytes}
+use Rattle.paper.proofs.NumberCodec.{Group, cut, unfit, last, first, group, group_goes_on, fault_got, number_refused_at, number_refusals, number_there, number_back}
 
 -- bytes that end before a number of at most k groups does: fewer than k, each saying that another follows
 pub record CutShort (k : ℕ) (b : List ℕ) : Type 0 where
@@ -23,34 +21,34 @@ pub record CutShort (k : ℕ) (b : List ℕ) : Type 0 where
   pub follows : All (λ x. 128 ≤ x) b
 
 -- 2 is not 1
-not_both_refusals : {p q : ℕ} → Refused bad_number p ≡ Refused file_ends q → ⊥
+not_both_refusals : {p q : ℕ} → ◌≡◌ {A = Read ℕ} (fault bad_number p) (fault file_ends q) → ⊥
 not_both_refusals e = let z : bad_number ≡ file_ends = cc in omega arith
 
 -- refused with 1 exactly where the bytes end so
 module _ (top : ℕ) (s : List ℕ) (from : ℕ) where
-  refused_ends : (k least at : ℕ) → groups_from k top least s from at ≡ Refused file_ends from → CutShort k (drop at s)
+  refused_ends : (k least at : ℕ) → groups_from k top least s from at ≡ fault file_ends from → CutShort k (drop at s)
   unfolding groups_from
   refused_ends zero least at e = absurd (not_both_refusals e)
   refused_ends (suc k) least at e =
       go (groups_from (suc k) top least s from at) (group k top least s from at) e (λ d. refused_ends k 1 (at + 1) d)
     where
-      go : (x : Num) → Group k top least s from at x → x ≡ Refused file_ends from
-          → (groups_from k top 1 s from (at + 1) ≡ Refused file_ends from → CutShort k (drop (at + 1) s)) → CutShort (suc k) (drop at s)
+      go : (x : Read ℕ) → Group k top least s from at x → x ≡ fault file_ends from
+          → (groups_from k top 1 s from (at + 1) ≡ fault file_ends from → CutShort k (drop (at + 1) s)) → CutShort (suc k) (drop at s)
       go x (cut h) e ih = rw (drop_of_length-le s h) (record { few = omega arith; follows = tt })
       go x (unfit h d) e ih = absurd (not_both_refusals e)
-      go x (last h d m t) e ih = absurd (refused_got (sym e))
-      go x (first h d (Got m to) r) e ih = absurd (refused_got (sym e))
-      go x (first h d (Refused i q) r) e ih =
+      go x (last h d m t) e ih = absurd (fault_got (sym e))
+      go x (first h d (got m to) r) e ih = absurd (fault_got (sym e))
+      go x (first h d (fault i q) r) e ih =
           let w = ih (r ∙ e) in
           rw (drop_at_element s at 0 h) (record { few = omega (arith, w.few); follows = (d, w.follows) })
 
-  ends_refused : (k least at : ℕ) → CutShort k (drop at s) → groups_from k top least s from at ≡ Refused file_ends from
+  ends_refused : (k least at : ℕ) → CutShort k (drop at s) → groups_from k top least s from at ≡ fault file_ends from
   unfolding groups_from
   ends_refused zero least at w = absurd (let z : ⊥ = omega (arith, w.few) in z)
   ends_refused (suc k) least at w = go (ltb at (length s)) refl (λ v. ends_refused k 1 (at + 1) v)
     where
-      go : (b : Bool) → ltb at (length s) ≡ b → (CutShort k (drop (at + 1) s) → groups_from k top 1 s from (at + 1) ≡ Refused file_ends from)
-          → groups_from (suc k) top least s from at ≡ Refused file_ends from
+      go : (b : Bool) → ltb at (length s) ≡ b → (CutShort k (drop (at + 1) s) → groups_from k top 1 s from (at + 1) ≡ fault file_ends from)
+          → groups_from (suc k) top least s from at ≡ fault file_ends from
       go false c ih = rw c
       go true c ih =
           let h = ltb-true at (length s) c in
@@ -64,20 +62,20 @@ NoNumber b = (n : ℕ) (r : List ℕ) → n < number_limit → b ≡ number_byte
 
 module _ (s : List ℕ) (at : ℕ) where
   -- 1: "file ends in or before a number"
-  pub file_ends_exactly : (number_at s at ≡ Refused file_ends at) ↔ CutShort most_groups (drop at s)
+  pub file_ends_exactly : (number_at s at ≡ fault file_ends at) ↔ CutShort most_groups (drop at s)
   unfolding number_at
   file_ends_exactly = (refused_ends top_group s at most_groups 0 at, ends_refused top_group s at most_groups 0 at)
 
   -- 2: "number not shortest or too large"
-  pub bad_number_exactly : Bytes s → (number_at s at ≡ Refused bad_number at) ↔ ((CutShort most_groups (drop at s) → ⊥) × NoNumber (drop at s))
+  pub bad_number_exactly : Bytes s → (number_at s at ≡ fault bad_number at) ↔ ((CutShort most_groups (drop at s) → ⊥) × NoNumber (drop at s))
   bad_number_exactly y = (
-    λ e. (λ w. not_both_refusals (sym e ∙ file_ends_exactly.1 w), λ n r h d. refused_got (sym e ∙ number_there s at n r h d)),
+    λ e. (λ w. not_both_refusals (sym e ∙ file_ends_exactly.1 w), λ n r h d. fault_got (sym e ∙ number_there s at n r h d)),
     λ h. back h (number_at s at) refl,
   )
     where
-      back : (CutShort most_groups (drop at s) → ⊥) × NoNumber (drop at s) → (x : Num) → number_at s at ≡ x → number_at s at ≡ Refused bad_number at
-      back h (Got n to) e = let w = number_back s at n to y e in absurd (h.1 n (drop to s) w.small w.bytes)
-      back h (Refused j p) e =
+      back : (CutShort most_groups (drop at s) → ⊥) × NoNumber (drop at s) → (x : Read ℕ) → number_at s at ≡ x → number_at s at ≡ fault bad_number at
+      back h (got n to) e = let w = number_back s at n to y e in absurd (h.1 n (drop to s) w.small w.bytes)
+      back h (fault j p) e =
           let o : p ≡ at = number_refused_at s at e in
           ⊎_elim (λ (d : j ≡ file_ends). absurd (h.0 (file_ends_exactly.0 (e ∙ rw (d, o)))))
           (λ (d : j ≡ bad_number). e ∙ rw (d, o))

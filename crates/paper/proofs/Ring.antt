@@ -10,7 +10,8 @@ use Rattle.base.proofs.Elements.{all_member}
 use Rattle.base.proofs.Pairs.{zip_left, zip_right}
 use Rattle.paper.specs.Tables.{Table, is_record, record_at}
 use Rattle.paper.specs.Runs.{Statement}
-use Rattle.paper.specs.Files.{got, read_file}
+use Rattle.paper.specs.Numbers.{got}
+use Rattle.paper.specs.Files.{read_file}
 use Rattle.paper.specs.Alike.{Stated, stated, Alike, given, self, back, via, part, Agree, SameItem}
 use Rattle.paper.specs.Vectors.{ring_file}
 

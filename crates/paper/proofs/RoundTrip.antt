@@ -13,14 +13,14 @@ use Rattle.base.proofs.Elements.{all_replicate}
 use Rattle.base.proofs.Positions.{append_after}
 use Rattle.paper.specs.Sizes.{most_cabinets, most_unknowns, most_records, most_parts, most_statements, most_groups, number_limit, longest_file}
 use Rattle.paper.specs.Refusals.{part_not_unknown, no_such_entry, bytes_left}
-use Rattle.paper.specs.Numbers.{number_bytes}
+use Rattle.paper.specs.Numbers.{Read, got, fault, number_bytes}
 use Rattle.paper.specs.Tables.{Record, RecordOk, Table, TableOk, entries}
 use Rattle.paper.specs.Runs.{Statement, Run, as_item, initial}
 use Rattle.paper.specs.Reached.{StatementOk, FileOk}
-use Rattle.paper.specs.Files.{Form, end, ◌>>=◌, number, times, record_form, table_form, statement_form, count_form, file_form, File, Read, got, fault, reading, ended, read_file, each, record_bytes, statement_bytes, table_bytes, file_bytes, padded_file}
+use Rattle.paper.specs.Files.{Form, end, ◌>>=◌, number, times, record_form, table_form, statement_form, count_form, file_form, File, reading, ended, read_file, each, record_bytes, statement_bytes, table_bytes, file_bytes, padded_file}
 use Rattle.paper.specs.Replies.{AsLoaded}
-use Rattle.paper.proofs.NumberCodec.{number_one, number_most}
-use Rattle.paper.proofs.Forms.{Spells, more, number_spells, spells_next, number_codec, Codec, spells_made, made_spells, spells_bind, bind_spells, times_codec, codec_there, codec_back, fault_got}
+use Rattle.paper.proofs.NumberCodec.{fault_got, number_one, number_most}
+use Rattle.paper.proofs.Forms.{Spells, more, number_spells, spells_next, number_codec, Codec, spells_made, made_spells, spells_bind, bind_spells, times_codec, codec_there, codec_back}
 
 -- a record: "symbol, part count, parts"
 pub record_codec : (v : ℕ) → v ≤ most_unknowns → Codec (record_form v) record_bytes (RecordOk v)

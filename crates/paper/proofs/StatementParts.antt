@@ -14,10 +14,10 @@ use Rattle.base.specs.Lists.{Bytes}
 use Rattle.base.proofs.Elements.{place_some, some_place, place_split, all_take, all_at}
 use Rattle.base.proofs.Positions.{append_after}
 use Rattle.paper.specs.Sizes.{most_statements}
-use Rattle.paper.specs.Numbers.{number_bytes}
+use Rattle.paper.specs.Numbers.{Read, got, fault, number_bytes}
 use Rattle.paper.specs.Runs.{Statement}
 use Rattle.paper.specs.Reached.{StatementOk, FileOk}
-use Rattle.paper.specs.Files.{end, ◌>>=◌, times, statement_form, count_form, before_statement, File, Read, got, fault, reading, read_file, each, statement_bytes, table_bytes, file_bytes, Span, empty_span, span_in, span_at, statement_span, statement_part}
+use Rattle.paper.specs.Files.{end, ◌>>=◌, times, statement_form, count_form, before_statement, File, reading, read_file, each, statement_bytes, table_bytes, file_bytes, Span, empty_span, span_in, span_at, statement_span, statement_part}
 use Rattle.paper.proofs.NumberCodec.{number_some}
 use Rattle.paper.proofs.Forms.{Spells, number_spells, made_spells, bind_spells, spelt_read, times_codec, codec_there}
 use Rattle.paper.proofs.RoundTrip.{table_codec, statement_codec, read_written}

@@ -3,11 +3,9 @@ use Rattle.std.specs.Prelude.{List, [], ◌∷◌, ◌++◌, ℕ, zero, suc, ◌
 use Rattle.base.specs.Choice.{pick}
 use Rattle.paper.specs.Sizes.{most_cabinets, most_unknowns, most_records, most_statements, most_parts, number_limit, longest_file}
 use Rattle.paper.specs.Refusals.{bad_number, bad_cabinets, bad_unknowns, bad_records, too_many_parts, part_not_unknown, too_many_statements, no_such_cabinet, no_such_entry, bytes_left}
-use Rattle.paper.specs.Numbers.{ranged_at, number_bytes}
+use Rattle.paper.specs.Numbers.{Read, got, fault, ranged_at, number_bytes}
 use Rattle.paper.specs.Tables.{Record, Table, entries}
 use Rattle.paper.specs.Runs.{Statement}
-use Rattle.paper.specs.declared.Num.{Num}
-use Rattle.paper.specs.declared.Num.TheVariants.{Got, Refused}
 
 -- a table and statements
 pub record File : Type 0 where
@@ -77,16 +75,11 @@ file_form = do
   qs ← times e (statement_form t)
   end (record { table = t; statements = qs })
 
--- what was read and the next position; or the refusal and "the position where the faulty number starts"
-pub data Read (A : Type 0) : Type 0 where
-  got : A → ℕ → Read A
-  fault : ℕ → ℕ → Read A
-
 module _ {A : Type 0} where
   -- what follows a number that was read
-  abbrev pub onward : Num → (ℕ → ℕ → Read A) → Read A
-  onward (Got n at) f = f n at
-  onward (Refused k p) f = fault k p
+  abbrev pub onward : Read ℕ → (ℕ → ℕ → Read A) → Read A
+  onward (got n at) f = f n at
+  onward (fault k p) f = fault k p
 
   -- "the first fault in reading order"
   abbrev pub reading : Form A → List ℕ → ℕ → Read A

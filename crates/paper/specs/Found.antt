@@ -1,7 +1,7 @@
 -- What the code's readers give, as the paper's reads: a value and the next position, or a refusal and its position.
 use Rattle.std.specs.Prelude.{Result, Ok, Err}
 use Rattle.paper.specs.Refusals.{refusal_number}
-use Rattle.paper.specs.Files.{Read, got, fault}
+use Rattle.paper.specs.Numbers.{Read, got, fault}
 use Rattle.paper.specs.declared.refused.Fault.{Fault}
 use Rattle.paper.specs.declared.Found.{Found}
 

@@ -5,7 +5,8 @@ use Rattle.base.specs.Choice.{first_of}
 use Rattle.paper.specs.Tables.{Table}
 use Rattle.paper.specs.Runs.{Run, initial}
 use Rattle.paper.specs.Steps.{refused, done, step, waits_at}
-use Rattle.paper.specs.Files.{File, Read, got, fault, read_file}
+use Rattle.paper.specs.Numbers.{Read, got, fault}
+use Rattle.paper.specs.Files.{File, read_file}
 use Rattle.paper.specs.Maps.{Look, open_look, record_look, Row, map_row}
 use Rattle.paper.specs.Counts.{most_steps}
 

@@ -7,7 +7,8 @@ use Rattle.paper.specs.Refusals.{wrong_length, not_sound, has_clashed, items_pen
 use Rattle.paper.specs.Tables.{Table}
 use Rattle.paper.specs.Runs.{Statement, Run, initial}
 use Rattle.paper.specs.Steps.{Outcome, refused, done, Listed, listed}
-use Rattle.paper.specs.Files.{File, Read, got, fault}
+use Rattle.paper.specs.Numbers.{Read, got, fault}
+use Rattle.paper.specs.Files.{File}
 use Rattle.paper.specs.Reached.{FileOk}
 use Rattle.paper.specs.declared.Item.{Item}
 

@@ -4,17 +4,15 @@ use Rattle.std.proofs.Math.Option.{Option, none, some}
 use Rattle.base.specs.Choice.{pick}
 use Rattle.paper.specs.Sizes.{longest_file}
 use Rattle.paper.specs.Refusals.{no_room}
-use Rattle.paper.specs.Numbers.{number_at, number_bytes}
+use Rattle.paper.specs.Numbers.{Read, got, fault, number_at, number_bytes}
 use Rattle.paper.specs.Tables.{Table}
 use Rattle.paper.specs.Runs.{Run, initial}
 use Rattle.paper.specs.Steps.{refused, done, step, steps}
-use Rattle.paper.specs.Files.{File, Read, got, fault, read_file}
+use Rattle.paper.specs.Files.{File, read_file}
 use Rattle.paper.specs.Replies.{Reply, reply, checked, load_reply, step_reply, list_reply, map_number, map_reply, write_reply}
 use Rattle.paper.specs.Ends.{agree, end_of}
 use Rattle.paper.specs.Counts.{most_steps, most_held}
 use Rattle.paper.specs.Programs.{next_state, first_state, drawn_file, drawn_run, printed}
-use Rattle.paper.specs.declared.Num.{Num}
-use Rattle.paper.specs.declared.Num.TheVariants.{Got, Refused}
 
 -- what may be asked of the definitions; each answer is a list of numbers
 pub data Question : Type 0 where
@@ -40,9 +38,9 @@ pub data Question : Type 0 where
   replied : Reply → Question
 
 -- a number read, as numbers
-abbrev pub number_answer : Num → List ℕ
-number_answer (Got n at) = 0 ∷ n ∷ at ∷ []
-number_answer (Refused k p) = k ∷ p ∷ []
+abbrev pub number_answer : Read ℕ → List ℕ
+number_answer (got n at) = 0 ∷ n ∷ at ∷ []
+number_answer (fault k p) = k ∷ p ∷ []
 
 -- a reply, as numbers
 abbrev pub reply_answer : Reply → List ℕ

@@ -8,13 +8,6 @@ pub mod sizes; // sizes.rt: limits and sizes
 
 pub use refused::{Fault, Refusal};
 
-// What reading a number finds: its value and the next position, or a refusal and the position where the number starts.
-#[derive(Clone, Copy)]
-pub enum Num {
-    Got(u64, usize),
-    Refused(usize, usize),
-}
-
 // What is read, and the next position.
 #[derive(Clone, Copy)]
 pub struct Found<T> {
