@@ -253,7 +253,6 @@ ranged_next low below k s at n next e =
     let i = number_next s at n next w.0 in
     (i.0, i.1, w.1, w.2)
 
--- one of them with premises as they stand in code
-module _ (low below k : ℕ) (s : List ℕ) (at n next : ℕ) (x : Read ℕ) (e : x ≡ ranged_at low below k s at) (g : x ≡ got n next) where
-  pub ranged_below : n < below
-  ranged_below = (ranged_next low below k s at n next (sym e ∙ g)).3
+-- one of them with its premise as it stands in code
+pub ranged_below : (low below k : ℕ) (s : List ℕ) (at n next : ℕ) → got n next ≡ ranged_at low below k s at → n < below
+ranged_below low below k s at n next e = (ranged_next low below k s at n next (sym e)).3

@@ -1,6 +1,6 @@
 -- What callers of `check_file` know of an accepted file: what was read, from where to where.
 use Prim.Native.Nat.{ℕ, suc, ◌≤◌}
-use mathlib.Core.Path.{◌≡◌, refl, sym, ap, subst, ◌∙◌}
+use mathlib.Core.Path.{◌≡◌, refl, sym, subst, ◌∙◌}
 use mathlib.Core.Bool.{Bool, true, false}
 use mathlib.Core.List.{List}
 use native.Mathlib.Omega.{arith}
@@ -11,12 +11,12 @@ use Rattle.base.specs.Choice.{pick}
 use Rattle.numbers.proofs.Reading.{ranged_next}
 use Rattle.paper.specs.Sizes.{most_statements}
 use Rattle.paper.specs.Refusals.{too_many_statements, bytes_left}
-use Rattle.paper.specs.Files.{times, table_form, statement_form, file_form, File, Read, got, fault, reading, ended, read_file}
-use Rattle.paper.proofs.Forms.{fault_got}
-use Rattle.paper.specs.declared.Num.TheVariants.{Got}
-use Rattle.reading.specs.declared.End.TheVariants.{At, Refused as Faulty}
+use Rattle.paper.specs.Numbers.{Read, got, fault}
+use Rattle.paper.specs.Files.{times, table_form, statement_form, file_form, File, reading, ended, read_file}
+use Rattle.paper.proofs.NumberCodec.{fault_got}
 use Rattle.reading.specs.declared.Checked.{Checked}
 use Rattle.reading.specs.Reads.{Heading, sizes_form, checked_of, checked_file}
+use Rattle.reading.proofs.Onward.{got_value}
 use Rattle.reading.proofs.SizesRead.{HeadingOk, heading_ok}
 use Rattle.reading.proofs.FileStages.{records_after, statement_after, count_at, Stages, staged_file, stages_read, stages_table, stages_form, stages_records, stages_statements, went_through}
 use Rattle.reading.proofs.FileChecks.{accepting, accepting_is}
@@ -40,7 +40,7 @@ pub record Accepted (f : List ℕ) (c : Checked) : Type 0 where
   pub between : ℕ
   pub records_read : reading (records_after (sizes_of c)) f c.table ≡ got file.table.records between
   pub table_read : reading table_form f 0 ≡ got file.table between
-  pub count_read : count_at f between ≡ Got c.statements c.list
+  pub count_read : count_at f between ≡ got c.statements c.list
   pub form : statement_form file.table ≡ statement_after (sizes_of c)
   pub statements_read : reading (times c.statements (statement_after (sizes_of c))) f c.list ≡ got file.statements last
 
@@ -78,18 +78,15 @@ ended_got f (got y t) x to e = go (ltb t (length f)) refl e
     go true c e = absurd (fault_got e)
     go false c e = let o : t ≡ to = cc in let m = ltb-false t (length f) c in (e, omega arith)
 
--- where `check_file` gives an end, the file is accepted
-pub accepted : (f : List ℕ) (c : Checked) → c ≡ checked_file f → (to : ℕ) → c.end ≡ At to → Accepted f c
+-- where `check_file` gives sizes and positions, the file is accepted
+pub accepted : (f : List ℕ) (c : Checked) (to : ℕ) → got c to ≡ checked_file f → Accepted f c
 unfolding checked_file read_file
-accepted f c e to d = go (read_file f) refl e
+accepted f c to e = go (read_file f) refl e
   where
-    go : (r : Read File) → read_file f ≡ r → c ≡ checked_of f r → Accepted f c
-    go (fault k p) g h =
-        let a : c.end ≡ Faulty k p = ap (λ (y : Checked). y.end) h in
-        let z : ◌≡◌ {A = ℕ} 0 1 = cc in
-        absurd (omega arith)
+    go : (r : Read File) → read_file f ≡ r → got c to ≡ checked_of f r → Accepted f c
+    go (fault k p) g h = absurd (fault_got (sym h))
     go (got x t) g h =
         let p = ended_got f (reading file_form f 0) x t g in
         let s = went_through f x t p.0 in
         let l : length f ≤ s.0.last = omega (arith, p.1, s.1) in
-        subst (Accepted f) (accepting_is s.0 l ∙ sym e) (stages_accepted s.0 l)
+        subst (Accepted f) (got_value (accepting_is s.0 l ∙ sym e)) (stages_accepted s.0 l)

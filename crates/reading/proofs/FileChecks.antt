@@ -1,6 +1,6 @@
 -- Laws of the whole file: one for each way out of `check_file`.
 use Prim.Native.Nat.{ℕ, ◌+◌, ◌≤◌, ◌<◌}
-use mathlib.Core.Path.{◌≡◌, refl, sym, ap, ◌∙◌}
+use mathlib.Core.Path.{◌≡◌, refl, sym}
 use mathlib.Core.List.{List}
 use native.Mathlib.Omega.{arith}
 use borrow.Author.Tests.{lt-ltb, le-ltb}
@@ -8,20 +8,21 @@ use lib.ListN.{length}
 use mir.Syntax.{w64}
 use mir.Val.{Fits}
 use Rattle.paper.specs.Sizes.{most_cabinets, most_unknowns, most_records}
-use Rattle.paper.specs.Refusals.{bytes_left}
-use Rattle.paper.specs.Tables.{Record}
-use Rattle.paper.specs.Runs.{Statement}
-use Rattle.paper.specs.Files.{times, record_form, file_form, got, fault, reading, read_file}
-use Rattle.paper.specs.declared.Num.{Num}
-use Rattle.paper.specs.declared.Num.TheVariants.{Got, Refused}
-use Rattle.reading.specs.declared.End.{End}
-use Rattle.reading.specs.declared.End.TheVariants.{At, Refused as Faulty}
+use Rattle.paper.specs.Refusals.{refusal_number, bytes_left}
+use Rattle.paper.specs.Numbers.{got, fault}
+use Rattle.paper.specs.Files.{times, record_form, file_form, reading, read_file}
 use Rattle.reading.specs.declared.Sizes.{Sizes}
 use Rattle.reading.specs.declared.Checked.{Checked}
-use Rattle.reading.specs.Reads.{number_end, end_of, Heading, sizes_form, sizes_read, statement_form_of, no_file, checked_file}
-use Rattle.reading.proofs.Ends.{ended_at, ended_refused, end_got, end_fault}
+use Rattle.std.specs.Prelude.{Result, Ok, Err}
+use Rattle.paper.specs.declared.Found.{Found}
+use Rattle.reading.specs.declared.RecordRead.{RecordRead}
+use Rattle.reading.specs.declared.StatementRead.{StatementRead}
+use Rattle.paper.specs.Found.{as_read}
+use Rattle.paper.specs.declared.refused.Fault.{Fault}
+use Rattle.reading.specs.Reads.{read_as, heading, sizes_form, RecordFound, record_of, statement_form_of, statement_of, Skipped, checked_file}
+use Rattle.reading.proofs.Times.{EndsAs, skipped_ends}
 use Rattle.reading.proofs.SizesRead.{heading_ok}
-use Rattle.reading.proofs.FileStages.{statement_after, count_at, sizes_fault, records_fault, count_fault, statements_fault, Stages, stages_read, stages_list, stages_records, stages_statements}
+use Rattle.reading.proofs.FileStages.{count_at, sizes_fault, records_fault, count_fault, statements_fault, Stages, stages_read, stages_list, stages_records, stages_statements}
 
 -- the answer for a file that went through all stages
 abbrev pub accepting : {f : List ℕ} → Stages f → Checked
@@ -33,100 +34,85 @@ accepting w =
       statements = w.count;
       table = w.table;
       list = w.list;
-      end = At w.last;
     }
 
 -- it is what checking the file finds
-pub accepting_is : {f : List ℕ} (w : Stages f) → length f ≤ w.last → accepting w ≡ checked_file f
+pub accepting_is : {f : List ℕ} (w : Stages f) → length f ≤ w.last → got (accepting w) w.last ≡ checked_file f
 unfolding checked_file read_file
 accepting_is {f} w h =
     rw (stages_read w, le-ltb w.last (length f) h, w.sizes_read_lem, stages_list w, stages_records w, stages_statements w) refl
 
+-- where the reads of so many records and of so many statements ended
+pub records_end : {P : ℕ → Result (Found RecordRead) Fault → Type 0} (v : ℕ) (f : List ℕ)
+    → ((at : ℕ) (x : Result (Found RecordRead) Fault) → P at x → RecordFound (record_form v) f at x)
+    → (n at : ℕ) (r : Result ℕ Fault) → Skipped P n at r → EndsAs r (reading (times n (record_form v)) f at)
+records_end v f found n at r h = skipped_ends _ record_of (record_form v) f (λ at x p. (found at x p).read) n at r h
+
+pub statements_end : {P : ℕ → Result (Found StatementRead) Fault → Type 0} (s e : ℕ) (f : List ℕ)
+    → ((at : ℕ) (x : Result (Found StatementRead) Fault) → P at x → read_as statement_of x ≡ reading (statement_form_of s e) f at)
+    → (n at : ℕ) (r : Result ℕ Fault) → Skipped P n at r → EndsAs r (reading (times n (statement_form_of s e)) f at)
+statements_end s e f found n at r h = skipped_ends _ statement_of (statement_form_of s e) f found n at r h
+
 module _ (f : List ℕ) where
   -- a refused file is checked so
-  refused_file : (k p : ℕ) (y : End) (r : Checked) → y ≡ Faulty k p → r ≡ no_file y → read_file f ≡ fault k p → r ≡ checked_file f
-  unfolding checked_file
-  refused_file k p y r e d g = d ∙ ap no_file e ∙ rw g refl
+  faulty_file : (k p : ℕ) → reading file_form f 0 ≡ fault k p → fault k p ≡ checked_file f
+  unfolding checked_file read_file
+  faulty_file k p d = rw d refl
 
-  faulty_file : (k p : ℕ) (y : End) (r : Checked) → y ≡ Faulty k p → r ≡ no_file y → reading file_form f 0 ≡ fault k p
-      → r ≡ checked_file f
-  unfolding read_file
-  faulty_file k p y r e d g = refused_file k p y r e d (rw g refl)
+  pub refused_in_sizes : (e : Fault) → read_as heading (Err e) ≡ reading sizes_form f 0 → as_read (Err e) ≡ checked_file f
+  refused_in_sizes e d = faulty_file _ _ (sizes_fault f _ _ (sym d))
 
-  module _ (x : Sizes) (e1 : sizes_read x ≡ reading sizes_form f 0) where
-    abbrev heading : Heading
-    heading = record { cabinets = x.cabinets; unknowns = x.unknowns; count = x.records }
+  module _ (x : Sizes) (t1 : ℕ) (d1 : got (heading x) t1 ≡ reading sizes_form f 0) where
+    pub cabinets_few : x.cabinets ≤ most_cabinets
+    cabinets_few = (heading_ok f (heading x) t1 (sym d1)).cabinets
 
-    pub refused_in_sizes : (k p : ℕ) → x.end ≡ Faulty k p → (r : Checked) → r ≡ no_file x.end → r ≡ checked_file f
-    refused_in_sizes k p d r g =
-        faulty_file k p x.end r d g (sizes_fault f k p (ended_refused heading x.end (reading sizes_form f 0) e1 k p d))
+    pub unknowns_few : x.unknowns ≤ most_unknowns
+    unknowns_few = (heading_ok f (heading x) t1 (sym d1)).unknowns
 
-    module _ (t1 : ℕ) (d1 : x.end ≡ At t1) where
-      sizes_got : reading sizes_form f 0 ≡ got heading t1
-      sizes_got = ended_at heading x.end (reading sizes_form f 0) e1 t1 d1
+    pub entries_few : x.unknowns + x.records ≤ most_unknowns + most_records
+    entries_few = let h = heading_ok f (heading x) t1 (sym d1) in omega (arith, h.unknowns, h.count)
 
-      pub cabinets_few : x.cabinets ≤ most_cabinets
-      cabinets_few = (heading_ok f heading t1 sizes_got).cabinets
+    pub entries_fit : Fits w64 (x.unknowns + x.records)
+    entries_fit = omega (arith, entries_few)
 
-      pub unknowns_few : x.unknowns ≤ most_unknowns
-      unknowns_few = (heading_ok f heading t1 sizes_got).unknowns
+    pub refused_in_records : (e : Fault) → EndsAs (Err e) (reading (times x.records (record_form x.unknowns)) f t1)
+        → as_read (Err e) ≡ checked_file f
+    refused_in_records e d = faulty_file _ _ (records_fault f (heading x) t1 (sym d1) _ _ d)
 
-      pub entries_few : x.unknowns + x.records ≤ most_unknowns + most_records
-      entries_few = let h = heading_ok f heading t1 sizes_got in omega (arith, h.unknowns, h.count)
+    module _ (t2 : ℕ) (d2 : EndsAs (Ok t2) (reading (times x.records (record_form x.unknowns)) f t1)) where
+      pub refused_in_count : (e : Fault) → fault (refusal_number e.refusal) e.at ≡ count_at f t2 → as_read (Err e) ≡ checked_file f
+      refused_in_count e d = faulty_file _ _ (count_fault f (heading x) t1 (sym d1) d2.0 t2 d2.1 _ _ (sym d))
 
-      pub entries_fit : Fits w64 (x.unknowns + x.records)
-      entries_fit = omega (arith, entries_few)
+      module _ (n t3 : ℕ) (d3 : got n t3 ≡ count_at f t2) where
+        pub refused_in_statements : (e : Fault)
+            → EndsAs (Err e) (reading (times n (statement_form_of x.cabinets (x.unknowns + x.records))) f t3)
+            → as_read (Err e) ≡ checked_file f
+        refused_in_statements e d = faulty_file _ _ (statements_fault f (heading x) t1 (sym d1) d2.0 t2 d2.1 n t3 (sym d3) _ _ d)
 
-      module _ (y : End) (e2 : y ≡ end_of (reading (times x.records (record_form x.unknowns)) f t1)) where
-        pub refused_in_records : (k p : ℕ) → y ≡ Faulty k p → (r : Checked) → r ≡ no_file y → r ≡ checked_file f
-        refused_in_records k p d r g = faulty_file k p y r d g (records_fault f heading t1 sizes_got k p (end_fault _ y k p e2 d))
+        module _ (t4 : ℕ) (d4 : EndsAs (Ok t4) (reading (times n (statement_form_of x.cabinets (x.unknowns + x.records))) f t3)) where
+          stages : Stages f
+          stages =
+              record {
+                heading = heading x;
+                table = t1;
+                sizes_read_lem = sym d1;
+                records = d2.0;
+                between = t2;
+                records_read = d2.1;
+                count = n;
+                list = t3;
+                count_read = sym d3;
+                statements = d4.0;
+                last = t4;
+                statements_read = d4.1;
+              }
 
-        module _ (t2 : ℕ) (d2 : y ≡ At t2) (z : Num) (e3 : z ≡ count_at f t2) where
-          records_got : (l : List Record) × (reading (times x.records (record_form x.unknowns)) f t1 ≡ got l t2)
-          records_got = end_got _ y t2 e2 d2
+          pub refused_bytes_left : t4 < length f → fault bytes_left t4 ≡ checked_file f
+          unfolding checked_file read_file stages
+          refused_bytes_left h = rw (stages_read stages, lt-ltb t4 (length f) h) refl
 
-          pub refused_in_count : (k p : ℕ) → z ≡ Refused k p → (w : End) → w ≡ number_end z → (r : Checked) → r ≡ no_file w
-              → r ≡ checked_file f
-          refused_in_count k p d w c r g =
-              faulty_file k p w r (c ∙ ap number_end d) g
-              (count_fault f heading t1 sizes_got records_got.0 t2 records_got.1 k p (sym e3 ∙ d))
-
-          module _ (e t3 : ℕ) (d3 : z ≡ Got e t3) (w : End)
-              (e4 : w ≡ end_of (reading (times e (statement_form_of x.cabinets (x.unknowns + x.records))) f t3)) where
-            pub refused_in_statements : (k p : ℕ) → w ≡ Faulty k p → (r : Checked) → r ≡ no_file w → r ≡ checked_file f
-            refused_in_statements k p d r g =
-                faulty_file k p w r d g
-                (statements_fault f heading t1 sizes_got records_got.0 t2 records_got.1 e t3 (sym e3 ∙ d3) k p
-                (end_fault _ w k p e4 d))
-
-            module _ (t4 : ℕ) (d4 : w ≡ At t4) where
-              statements_got : (q : List Statement) × (reading (times e (statement_after heading)) f t3 ≡ got q t4)
-              statements_got = end_got _ w t4 e4 d4
-
-              stages : Stages f
-              stages =
-                  record {
-                    heading = heading;
-                    table = t1;
-                    sizes_read_lem = sizes_got;
-                    records = records_got.0;
-                    between = t2;
-                    records_read = records_got.1;
-                    count = e;
-                    list = t3;
-                    count_read = sym e3 ∙ d3;
-                    statements = statements_got.0;
-                    last = t4;
-                    statements_read = statements_got.1;
-                  }
-
-              pub refused_bytes_left : t4 < length f → (r : Checked) → r ≡ no_file (Faulty bytes_left t4) → r ≡ checked_file f
-              unfolding read_file stages
-              refused_bytes_left h r g =
-                  refused_file bytes_left t4 (Faulty bytes_left t4) r refl g (rw (stages_read stages, lt-ltb t4 (length f) h) refl)
-
-              pub accepted_whole : length f ≤ t4
-                  → record { cabinets = x.cabinets; unknowns = x.unknowns; records = x.records; statements = e; table = t1; list = t3; end = At t4 }
-                  ≡ checked_file f
-              unfolding stages
-              accepted_whole h = accepting_is stages h
+          pub accepted_whole : length f ≤ t4
+              → got (record { cabinets = x.cabinets; unknowns = x.unknowns; records = x.records; statements = n; table = t1; list = t3 }) t4
+              ≡ checked_file f
+          unfolding stages
+          accepted_whole h = accepting_is stages h

@@ -6,16 +6,17 @@ use mathlib.Core.List.{List}
 use lib.ListN.{length}
 use Rattle.paper.specs.Sizes.{most_statements}
 use Rattle.paper.specs.Refusals.{too_many_statements}
-use Rattle.paper.specs.Numbers.{ranged_at}
-use Rattle.paper.specs.Tables.{Record, Table}
+use Rattle.paper.specs.Numbers.{Read, got, fault, ranged_at}
+use Rattle.paper.specs.Tables.{Record, Table, entries}
 use Rattle.paper.specs.Runs.{Statement}
-use Rattle.paper.specs.Files.{Form, end, ◌>>=◌, times, record_form, table_form, statement_form, count_form, file_form, File, got, fault, reading}
-use Rattle.paper.specs.declared.Num.{Num}
-use Rattle.paper.specs.declared.Num.TheVariants.{Got, Refused}
+use Rattle.paper.specs.Files.{Form, end, ◌>>=◌, times, record_form, table_form, statement_form, count_form, file_form, File, reading}
 use Rattle.reading.specs.Reads.{Heading, sizes_form, statement_form_of}
 use Rattle.reading.proofs.Onward.{bind_on, bind_fault, bind_got, number_got}
 use Rattle.reading.proofs.Times.{times_count}
-use Rattle.reading.proofs.StatementReads.{statement_form_of_lem}
+
+-- a table's statements, by its cabinets and its entries
+statement_form_of_lem : (t : Table) → statement_form t ≡ statement_form_of t.cabinets (entries t)
+statement_form_of_lem t = refl
 
 -- the records after those sizes, and a statement after them
 abbrev pub records_after : Heading → Form (List Record)
@@ -25,7 +26,7 @@ abbrev pub statement_after : Heading → Form Statement
 statement_after h = statement_form_of h.cabinets (h.unknowns + h.count)
 
 -- E, at a position
-abbrev pub count_at : List ℕ → ℕ → Num
+abbrev pub count_at : List ℕ → ℕ → Read ℕ
 count_at f at = ranged_at 0 (suc most_statements) too_many_statements f at
 
 -- a table of those sizes and records, and a file of that table and statements
@@ -72,10 +73,10 @@ module _ (f : List ℕ) where
       unfolding file_form
       table_then = bind_on table_form file_after f 0 (table_of h l) t2 table_got
 
-      pub count_fault : (k p : ℕ) → count_at f t2 ≡ Refused k p → reading file_form f 0 ≡ fault k p
+      pub count_fault : (k p : ℕ) → count_at f t2 ≡ fault k p → reading file_form f 0 ≡ fault k p
       count_fault k p d = table_then ∙ rw d refl
 
-      module _ (e t3 : ℕ) (d3 : count_at f t2 ≡ Got e t3) where
+      module _ (e t3 : ℕ) (d3 : count_at f t2 ≡ got e t3) where
         pub count_got : reading (table_form >>= λ t. count_form) f 0 ≡ got e t3
         count_got = bind_on table_form (λ t. count_form) f 0 (table_of h l) t2 table_got ∙ rw d3 refl
 
@@ -103,7 +104,7 @@ pub record Stages (f : List ℕ) : Type 0 where
   pub records_read : reading (records_after heading) f table ≡ got records between
   pub count : ℕ
   pub list : ℕ
-  pub count_read : count_at f between ≡ Got count list
+  pub count_read : count_at f between ≡ got count list
   pub statements : List Statement
   pub last : ℕ
   pub statements_read : reading (times count (statement_after heading)) f list ≡ got statements last
@@ -163,7 +164,7 @@ module _ (f : List ℕ) where
   record ListStages (t : Table) (from to : ℕ) : Type 0 where
     pub count : ℕ
     pub list : ℕ
-    pub count_read : count_at f from ≡ Got count list
+    pub count_read : count_at f from ≡ got count list
     pub statements : List Statement
     pub statements_read : reading (times count (statement_form t)) f list ≡ got statements to
 

@@ -1,9 +1,7 @@
-pub mod Ends
 pub mod Onward
 pub mod Times
-pub mod SizesRead
 pub mod RecordFinds
-pub mod StatementReads
+pub mod SizesRead
 pub mod FileStages
 pub mod FileChecks
 pub mod FileAccepted

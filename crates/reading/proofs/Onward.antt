@@ -5,11 +5,10 @@ use mathlib.Core.List.{List}
 use native.Mathlib.Omega.{arith}
 use lib.ListN.{length}
 use Rattle.numbers.proofs.Reading.{ranged_next}
-use Rattle.paper.specs.Numbers.{ranged_at}
-use Rattle.paper.specs.Files.{Form, end, next, ◌>>=◌, Read, got, fault, onward, reading}
-use Rattle.paper.proofs.Forms.{and_then, reading_bind, fault_got}
-use Rattle.paper.specs.declared.Num.{Num}
-use Rattle.paper.specs.declared.Num.TheVariants.{Got, Refused}
+use Rattle.paper.specs.Numbers.{Read, got, fault, ranged_at}
+use Rattle.paper.specs.Files.{Form, end, next, ◌>>=◌, onward, reading}
+use Rattle.paper.proofs.NumberCodec.{fault_got}
+use Rattle.paper.proofs.Forms.{and_then, reading_bind}
 
 -- the same read has the same value
 pub got_value : {A : Type 0} {a b : A} {s t : ℕ} → got a s ≡ got b t → a ≡ b
@@ -41,16 +40,16 @@ module _ {A : Type 0} (f : List ℕ) where
   pub record NumberRead (low below k : ℕ) (g : ℕ → Form A) (at : ℕ) (a : A) (to : ℕ) : Type 0 where
     pub value : ℕ
     pub between : ℕ
-    pub first : ranged_at low below k f at ≡ Got value between
+    pub first : ranged_at low below k f at ≡ got value between
     pub second : reading (g value) f between ≡ got a to
 
   pub number_got : (low below k : ℕ) (g : ℕ → Form A) (at : ℕ) (a : A) (to : ℕ) → reading (next low below k g) f at ≡ got a to
       → NumberRead low below k g at a to
   number_got low below k g at a to e = go (ranged_at low below k f at) refl e
     where
-      go : (x : Num) → ranged_at low below k f at ≡ x → onward x (λ n t. reading (g n) f t) ≡ got a to → NumberRead low below k g at a to
-      go (Got n t) d e = record { value = n; between = t; first = d; second = e }
-      go (Refused j p) d e = absurd (fault_got e)
+      go : (x : Read ℕ) → ranged_at low below k f at ≡ x → onward x (λ n t. reading (g n) f t) ≡ got a to → NumberRead low below k g at a to
+      go (got n t) d e = record { value = n; between = t; first = d; second = e }
+      go (fault j p) d e = absurd (fault_got e)
 
   -- a read goes forward, and does not leave the file
   pub reading_within : (m : Form A) (at : ℕ) (a : A) (to : ℕ) → reading m f at ≡ got a to → (at ≤ to) × (at ≤ length f → to ≤ length f)

@@ -1,4 +1,4 @@
--- Laws of a record: one for each way out of `read_parts` and `read_record`, and the turns of the loop over its parts.
+-- Laws of a record: one for each way out of `read_parts`, and the turns of the loop over its parts; and a symbol's limit.
 use Prim.Native.Nat.{ℕ, suc, ◌+◌, ◌-◌, ◌≤◌, ◌<◌}
 use mathlib.Core.Path.{◌≡◌, refl, sym, ap, ◌∙◌}
 use mathlib.Core.List.{List, [], ◌∷◌, append-nil}
@@ -11,31 +11,18 @@ use mir.Syntax.{w8}
 use mir.Val.{Fits}
 use Rattle.numbers.proofs.Reading.{ranged_next, ranged_below}
 use Rattle.paper.specs.Sizes.{most_unknowns, most_parts, number_limit}
-use Rattle.paper.specs.Refusals.{bad_number, too_many_parts, part_not_unknown}
-use Rattle.paper.specs.Numbers.{ranged_at}
+use Rattle.paper.specs.Refusals.{refusal_number, bad_number, too_many_parts, part_not_unknown}
+use Rattle.paper.specs.Numbers.{got, fault, ranged_at}
 use Rattle.paper.specs.Tables.{Record}
-use Rattle.paper.specs.Files.{Form, end, ◌>>=◌, number, times, record_form, got, fault, reading}
+use Rattle.paper.specs.Files.{Form, end, ◌>>=◌, number, times, record_form, reading}
 use Rattle.paper.proofs.Forms.{and_then, reading_bind}
-use Rattle.paper.specs.declared.Num.{Num}
-use Rattle.paper.specs.declared.Num.TheVariants.{Got, Refused}
-use Rattle.reading.specs.declared.End.{End}
-use Rattle.reading.specs.declared.End.TheVariants.{At}
 use Rattle.reading.specs.declared.RecordRead.{RecordRead}
-use Rattle.reading.specs.Reads.{number_end, parts_form, unread, RecordFound}
-use Rattle.reading.proofs.Ends.{number_fault, ended_at}
+use Rattle.reading.specs.Reads.{parts_form, record_of, RecordFound}
+use Rattle.std.specs.Prelude.{Ok, Err}
+use Rattle.paper.specs.declared.refused.Fault.{Fault}
+use Rattle.paper.specs.declared.Found.{Found}
 use Rattle.reading.proofs.Onward.{got_value, number_got, bind_got}
 use Rattle.reading.proofs.Times.{after, after_after, after_none, first_read, first_refused}
-
--- the way out of `no_record`
-pub none_read : (x : Num) (y : End) → y ≡ number_end x
-    → record { symbol = 0; count = 0; parts = 0 ∷ 0 ∷ 0 ∷ 0 ∷ []; end = y } ≡ unread (number_end x)
-none_read x y e = ap unread e
-
--- a refused number, in what a form reads
-pub refused_found : (m : Form Record) (f : List ℕ) (at : ℕ) (x : Num) (k p : ℕ) (r : RecordRead) → x ≡ Refused k p → r ≡ unread (number_end x)
-    → fault k p ≡ reading m f at → RecordFound m f at r
-refused_found m f at x k p r g e d =
-    rw e (record { read = number_fault _ x (number_end x) k p refl g ∙ d; few = omega arith; long = refl; rest = refl })
 
 -- a part
 abbrev part : ℕ → Form ℕ
@@ -71,61 +58,47 @@ module _ (v count : ℕ) (f : List ℕ) (at : ℕ) where
   module _ (few : count ≤ most_parts) (parts : List ℕ) (i here : ℕ) (h : PartsSoFar v count f at parts i here) where
     -- all parts are read
     pub parts_read : (symbol : ℕ) → count ≤ i
-        → RecordFound (parts_form v symbol count) f at (record { symbol = symbol; count = count; parts = parts; end = At here })
+        → RecordFound (parts_form v symbol count) f at
+        (Ok (record { value = record { symbol = symbol; count = count; parts = parts }; next = here }))
     parts_read symbol l =
         let e : i ≡ count = omega (arith, h.most) in
         let z : count - i ≡ 0 = omega arith in
         let d : reading (times count (part v)) f at ≡ got (take count parts) here =
         h.read ∙ rw (z, e) (ap (λ (k : List ℕ). got k here) (append-nil (take count parts))) in
-        record { read = sym (made_of_parts symbol ∙ rw d refl); few = few; long = h.long; rest = rw e at h.rest }
+        record { read = sym (made_of_parts symbol ∙ rw d refl); places = record { few = few; long = h.long; rest = rw e at h.rest } }
 
-    module _ (l : i < count) (x : Num) (e : x ≡ ranged_at 0 v part_not_unknown f here) where
+    module _ (l : i < count) where
       one_left : count - i ≡ suc (count - (i + 1))
       one_left = omega arith
 
       place_left : most_parts - i ≡ suc (most_parts - (i + 1))
       place_left = omega arith
 
-      pub part_refused : (symbol k p : ℕ) → x ≡ Refused k p → (r : RecordRead) → r ≡ unread (number_end x)
-          → RecordFound (parts_form v symbol count) f at r
-      part_refused symbol k p g r d =
-          let a : reading (times count (part v)) f at ≡ fault k p =
-          h.read ∙ rw (one_left, first_refused (part v) f (count - (i + 1)) here k p (rw (← e, g) refl)) refl in
-          refused_found (parts_form v symbol count) f at x k p r g d (sym (made_of_parts symbol ∙ rw a refl))
+      pub part_refused : (symbol : ℕ) (e : Fault) → fault (refusal_number e.refusal) e.at ≡ ranged_at 0 v part_not_unknown f here
+          → RecordFound (parts_form v symbol count) f at (Err e)
+      part_refused symbol e r =
+          let a : reading (times count (part v)) f at ≡ fault (refusal_number e.refusal) e.at =
+          h.read ∙ rw (one_left, first_refused (part v) f (count - (i + 1)) here (refusal_number e.refusal) e.at (rw (← r) refl)) refl in
+          record { read = sym (made_of_parts symbol ∙ rw a refl); places = tt }
 
-      pub part_read : (n to : ℕ) → x ≡ Got n to → PartsSoFar v count f at (set parts i n) (i + 1) to
-      part_read n to g =
-          record {
-            most = omega arith;
-            long = length-set parts i n ∙ h.long;
-            read =
-                h.read ∙ rw (one_left, first_read (part v) f (count - (i + 1)) here n to (rw (← e, g) refl))
-                (after_after (take i parts) (n ∷ []) (reading (times (count - (i + 1)) (part v)) f to)
-                ∙ rw (add-one, take-suc-set parts i n (omega (arith, h.long))) refl);
-            rest =
-                drop-set-lt (i + 1) parts i n (omega arith) ∙ sym (drop-drop 1 i parts)
-                ∙ ap (drop 1) h.rest ∙ rw (place_left) refl;
-          }
+      module _ (n to : ℕ) (r : got n to ≡ ranged_at 0 v part_not_unknown f here) where
+        pub part_read : PartsSoFar v count f at (set parts i n) (i + 1) to
+        part_read =
+            record {
+              most = omega arith;
+              long = length-set parts i n ∙ h.long;
+              read =
+                  h.read ∙ rw (one_left, first_read (part v) f (count - (i + 1)) here n to (rw (← r) refl))
+                  (after_after (take i parts) (n ∷ []) (reading (times (count - (i + 1)) (part v)) f to)
+                  ∙ rw (add-one, take-suc-set parts i n (omega (arith, h.long))) refl);
+              rest =
+                  drop-set-lt (i + 1) parts i n (omega arith) ∙ sym (drop-drop 1 i parts)
+                  ∙ ap (drop 1) h.rest ∙ rw (place_left) refl;
+            }
 
-      -- and a part that was read is a byte
-      pub part_fits : v ≤ most_unknowns → (n to : ℕ) → x ≡ Got n to → Fits w8 n
-      part_fits w n to g = omega (arith, ranged_below 0 v part_not_unknown f here n to x e g)
-
--- the ways out of `read_record`
-module _ (v : ℕ) (f : List ℕ) (at : ℕ) (x : Num) (e : x ≡ ranged_at 0 number_limit bad_number f at) where
-  pub symbol_refused : (k p : ℕ) → x ≡ Refused k p → (r : RecordRead) → r ≡ unread (number_end x) → RecordFound (record_form v) f at r
-  symbol_refused k p g r d = refused_found (record_form v) f at x k p r g d (rw (← e, g) refl)
-
-  module _ (symbol t : ℕ) (g : x ≡ Got symbol t) (y : Num) (e2 : y ≡ ranged_at 0 (suc most_parts) too_many_parts f t) where
-    pub count_refused : (k p : ℕ) → y ≡ Refused k p → (r : RecordRead) → r ≡ unread (number_end y) → RecordFound (record_form v) f at r
-    count_refused k p g2 r d = refused_found (record_form v) f at y k p r g2 d (rw (← e, g, ← e2, g2) refl)
-
-    module _ (count u : ℕ) (g2 : y ≡ Got count u) where
-      pub count_small : count ≤ most_parts
-      count_small = omega (arith, ranged_below 0 (suc most_parts) too_many_parts f t count u y e2 g2)
-
-      pub record_found : (r : RecordRead) → RecordFound (parts_form v symbol count) f u r → RecordFound (record_form v) f at r
-      record_found r h = record { read = h.read ∙ rw (← e, g, ← e2, g2) refl; few = h.few; long = h.long; rest = h.rest }
+        -- and a part that was read is a byte
+        pub part_fits : v ≤ most_unknowns → Fits w8 n
+        part_fits w = omega (arith, ranged_below 0 v part_not_unknown f here n to r)
 
 -- a record's symbol, where its read was not refused
 symbol_read : (v : ℕ) (f : List ℕ) (at : ℕ) (q : Record) (to : ℕ) → reading (record_form v) f at ≡ got q to → q.symbol < number_limit
@@ -136,6 +109,6 @@ symbol_read v f at q to e =
     let s : x.value ≡ q.symbol = ap (λ (k : Record). k.symbol) (got_value z.second) in
     omega (arith, (ranged_next 0 number_limit bad_number f at x.value x.between x.first).3)
 
-pub symbol_small : (v : ℕ) (f : List ℕ) (at : ℕ) (r : RecordRead) → RecordFound (record_form v) f at r → (to : ℕ) → r.end ≡ At to
-    → r.symbol < number_limit
-symbol_small v f at r h to d = symbol_read v f at _ to (ended_at _ r.end (reading (record_form v) f at) h.read to d)
+pub symbol_small : (v : ℕ) (f : List ℕ) (at : ℕ) (y : Found RecordRead) → RecordFound (record_form v) f at (Ok y)
+    → y.value.symbol < number_limit
+symbol_small v f at y h = symbol_read v f at (record_of y.value) y.next (sym h.read)

@@ -1,36 +1,15 @@
--- Laws of the sizes: one for each way out of `read_sizes`, and the limits that they keep to.
+-- The limits that the sizes keep to.
 use Prim.Native.Nat.{ℕ, suc, ◌≤◌}
-use mathlib.Core.Path.{◌≡◌, refl, ◌∙◌}
+use mathlib.Core.Path.{◌≡◌}
 use mathlib.Core.List.{List}
 use native.Mathlib.Omega.{arith}
 use Rattle.numbers.proofs.Reading.{ranged_next}
 use Rattle.paper.specs.Sizes.{most_cabinets, most_unknowns, most_records}
 use Rattle.paper.specs.Refusals.{bad_cabinets, bad_unknowns, bad_records}
-use Rattle.paper.specs.Numbers.{ranged_at}
-use Rattle.paper.specs.Files.{Form, end, ◌>>=◌, number, got, reading}
-use Rattle.paper.specs.declared.Num.{Num}
-use Rattle.paper.specs.declared.Num.TheVariants.{Got, Refused}
-use Rattle.reading.specs.declared.End.TheVariants.{At}
-use Rattle.reading.specs.declared.Sizes.{Sizes}
-use Rattle.reading.specs.Reads.{number_end, Heading, sizes_form, sizes_read}
-use Rattle.reading.proofs.Ends.{number_fault}
+use Rattle.paper.specs.Numbers.{got}
+use Rattle.paper.specs.Files.{Form, end, ◌>>=◌, number, reading}
+use Rattle.reading.specs.Reads.{Heading, sizes_form}
 use Rattle.reading.proofs.Onward.{number_got}
-
-module _ (f : List ℕ) (x : Num) (e : x ≡ ranged_at 1 (suc most_cabinets) bad_cabinets f 0) where
-  pub cabinets_refused : (k p : ℕ) → x ≡ Refused k p → (r : Sizes) → r.end ≡ number_end x → sizes_read r ≡ reading sizes_form f 0
-  cabinets_refused k p g r d = number_fault _ x r.end k p d g ∙ rw (← e, g) refl
-
-  module _ (s t : ℕ) (g : x ≡ Got s t) (y : Num) (e2 : y ≡ ranged_at 0 (suc most_unknowns) bad_unknowns f t) where
-    pub unknowns_refused : (k p : ℕ) → y ≡ Refused k p → (r : Sizes) → r.end ≡ number_end y → sizes_read r ≡ reading sizes_form f 0
-    unknowns_refused k p g2 r d = number_fault _ y r.end k p d g2 ∙ rw (← e, g, ← e2, g2) refl
-
-    module _ (v u : ℕ) (g2 : y ≡ Got v u) (z : Num) (e3 : z ≡ ranged_at 0 (suc most_records) bad_records f u) where
-      pub records_refused : (k p : ℕ) → z ≡ Refused k p → (r : Sizes) → r.end ≡ number_end z → sizes_read r ≡ reading sizes_form f 0
-      records_refused k p g3 r d = number_fault _ z r.end k p d g3 ∙ rw (← e, g, ← e2, g2, ← e3, g3) refl
-
-      pub sizes_read_lem : (n w : ℕ) → z ≡ Got n w
-          → sizes_read (record { cabinets = s; unknowns = v; records = n; end = At w }) ≡ reading sizes_form f 0
-      sizes_read_lem n w g3 = rw (← e, g, ← e2, g2, ← e3, g3) refl
 
 -- "Cabinets S: 1 to 8. V: 0 to 32. R: 0 to 64."
 pub record HeadingOk (h : Heading) : Type 0 where

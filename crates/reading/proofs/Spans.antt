@@ -13,14 +13,15 @@ use Rattle.base.specs.Choice.{pick}
 use Rattle.paper.specs.Sizes.{most_cabinets, most_unknowns, most_records}
 use Rattle.paper.specs.Tables.{Table}
 use Rattle.paper.specs.Runs.{Statement}
-use Rattle.paper.specs.Files.{Form, end, ◌>>=◌, times, table_form, statement_form, count_form, before_statement, File, Read, got, fault, reading, read_file, Span as FileSpan, empty_span, span_from, span_at, span_in, statement_span, statement_part}
-use Rattle.reading.specs.declared.End.{End}
-use Rattle.reading.specs.declared.End.TheVariants.{At, Refused as Faulty}
+use Rattle.paper.specs.Numbers.{Read, got, fault}
+use Rattle.paper.specs.Files.{Form, end, ◌>>=◌, times, table_form, statement_form, count_form, before_statement, File, reading, read_file, Span as FileSpan, empty_span, span_from, span_at, span_in, statement_span, statement_part}
 use Rattle.reading.specs.declared.Checked.{Checked}
-use Rattle.reading.specs.declared.StatementRead.{StatementRead}
 use Rattle.reading.specs.declared.Span.{Span}
-use Rattle.reading.specs.Reads.{end_of, statement_form_of, statement_read, checked_of, checked_file, span_of}
-use Rattle.reading.proofs.Ends.{ended_at, end_got, end_fault}
+use Rattle.std.specs.Prelude.{Ok, Err}
+use Rattle.paper.specs.declared.refused.Fault.{Fault}
+use Rattle.paper.proofs.NumberCodec.{fault_got}
+use Rattle.reading.specs.Reads.{statement_form_of, checked_of, checked_file, span_of}
+use Rattle.reading.proofs.Times.{EndsAs}
 use Rattle.reading.proofs.Onward.{bind_on, bind_fault, reading_within}
 use Rattle.reading.proofs.FileAccepted.{Accepted, accepted}
 
@@ -32,84 +33,79 @@ InFile f x = x.start + x.size ≤ length f
 abbrev statements_before : ℕ → Table → Form Table
 statements_before n t = count_form >>= λ e. times n (statement_form t) >>= λ l. end t
 
+-- a statement ends no earlier than it starts
+pub own_forward : (s e : ℕ) (f : List ℕ) (start : ℕ) (q : Statement) (next : ℕ) → got q next ≡ reading (statement_form_of s e) f start
+    → start ≤ next
+own_forward s e f start q next d = (reading_within f (statement_form_of s e) start q next (sym d)).0
+
 module _ (f : List ℕ) (n : ℕ) where
   -- the ways out of `find_statement`
-  module _ (c : Checked) (e1 : c ≡ checked_file f) where
-    pub refused_no_span : (k p : ℕ) → c.end ≡ Faulty k p → span_of (record { start = 0; size = 0 }) ≡ statement_span f n
-    unfolding checked_file statement_span
-    refused_no_span k p d = go (read_file f) e1
-      where
-        go : (r : Read File) → c ≡ checked_of f r → empty_span ≡ span_in f n r
-        go (fault j q) h = refl
-        go (got x t) h =
-            let a : c.end ≡ At t = ap (λ (y : Checked). y.end) h in
-            let z : ◌≡◌ {A = ℕ} 0 1 = cc in
-            absurd (omega arith)
+  abbrev NoSpan : Type 0
+  NoSpan = span_of (record { start = 0; size = 0 }) ≡ statement_span f n
 
-    module _ (to : ℕ) (d1 : c.end ≡ At to) where
-      known : Accepted f c
-      known = accepted f c e1 to d1
+  pub refused_no_span : (k p : ℕ) → fault k p ≡ checked_file f → NoSpan
+  unfolding checked_file statement_span
+  refused_no_span k p e = go (read_file f) e
+    where
+      go : (r : Read File) → fault k p ≡ checked_of f r → empty_span ≡ span_in f n r
+      go (fault j q) h = refl
+      go (got x t) h = absurd (fault_got h)
 
-      abbrev table : Table
-      table = known.file.table
+  module _ (c : Checked) (to : ℕ) (e1 : got c to ≡ checked_file f) where
+    known : Accepted f c
+    known = accepted f c to e1
 
-      pub cabinets_few : c.cabinets ≤ most_cabinets
-      cabinets_few = known.ok.cabinets
+    abbrev table : Table
+    table = known.file.table
 
-      pub entries_few : c.unknowns + c.records ≤ most_unknowns + most_records
-      entries_few = omega (arith, known.ok.unknowns, known.ok.count)
+    pub cabinets_few : c.cabinets ≤ most_cabinets
+    cabinets_few = known.ok.cabinets
 
-      pub entries_fit : Fits w64 (c.unknowns + c.records)
-      entries_fit = omega (arith, entries_few)
+    pub entries_few : c.unknowns + c.records ≤ most_unknowns + most_records
+    entries_few = omega (arith, known.ok.unknowns, known.ok.count)
 
-      pub no_such_statement : c.statements ≤ n → span_of (record { start = 0; size = 0 }) ≡ statement_span f n
+    pub entries_fit : Fits w64 (c.unknowns + c.records)
+    entries_fit = omega (arith, entries_few)
+
+    pub no_such_statement : c.statements ≤ n → NoSpan
+    unfolding statement_span
+    no_such_statement h = rw (known.read, known.statements, le-ltb n c.statements h) refl
+
+    abbrev own_form : Form Statement
+    own_form = statement_form_of c.cabinets (c.unknowns + c.records)
+
+    module _ (h : n < c.statements) where
+      -- the span is that of the statement after all that stands before it
+      span_there : statement_span f n ≡ span_at f (reading (before_statement n) f 0)
       unfolding statement_span
-      no_such_statement h = rw (known.read, known.statements, le-ltb n c.statements h) refl
+      span_there = rw (known.read, known.statements, lt-ltb n c.statements h) refl
 
-      module _ (h : n < c.statements) (y : End)
-          (e2 : y ≡ end_of (reading (times n (statement_form_of c.cabinets (c.unknowns + c.records))) f c.list)) where
-        -- the span is that of the statement after all that stands before it
-        span_there : statement_span f n ≡ span_at f (reading (before_statement n) f 0)
-        unfolding statement_span
-        span_there = rw (known.read, known.statements, lt-ltb n c.statements h) refl
+      -- and before it stand n statements, after E
+      before_read : reading (before_statement n) f 0 ≡ reading (times n (statement_form table) >>= λ l. end table) f c.list
+      before_read = bind_on table_form (statements_before n) f 0 table known.between known.table_read ∙ rw known.count_read refl
 
-        -- and before it stand n statements, after E
-        before_read : reading (before_statement n) f 0
-            ≡ reading (times n (statement_form (table)) >>= λ l. end (table)) f c.list
-        before_read = bind_on table_form (statements_before n) f 0 (table) known.between known.table_read ∙ rw known.count_read refl
+      same_reads : reading (times n (statement_form table)) f c.list ≡ reading (times n own_form) f c.list
+      same_reads = ap (λ (u : Form Statement). reading (times n u) f c.list) known.form
 
-        same_reads : reading (times n (statement_form (table))) f c.list
-            ≡ reading (times n (statement_form_of c.cabinets (c.unknowns + c.records))) f c.list
-        same_reads = ap (λ (u : Form Statement). reading (times n u) f c.list) known.form
+      pub before_refused : (e : Fault) → EndsAs (Err e) (reading (times n own_form) f c.list) → NoSpan
+      before_refused e d =
+          let g = before_read ∙ bind_fault (times n (statement_form table)) (λ l. end table) f c.list _ _ (same_reads ∙ d) in
+          sym (span_there ∙ ap (span_at f) g)
 
-        pub before_refused : (k p : ℕ) → y ≡ Faulty k p → span_of (record { start = 0; size = 0 }) ≡ statement_span f n
-        before_refused k p d =
-            let g : reading (before_statement n) f 0 ≡ fault k p =
-            before_read
-            ∙ bind_fault (times n (statement_form (table))) (λ l. end (table)) f c.list k p (same_reads ∙ end_fault _ y k p e2 d) in
-            sym (span_there ∙ ap (span_at f) g)
+      module _ (start : ℕ) (d2 : EndsAs (Ok start) (reading (times n own_form) f c.list)) where
+        -- so it starts where they end
+        own_read : statement_span f n ≡ span_from start (reading own_form f start)
+        own_read =
+            let g =
+            before_read ∙ bind_on (times n (statement_form table)) (λ l. end table) f c.list d2.0 start (same_reads ∙ d2.1) in
+            span_there ∙ ap (span_at f) g ∙ ap (span_from start) (ap (λ (u : Form Statement). reading u f start) known.form)
 
-        module _ (start : ℕ) (d2 : y ≡ At start) (q : StatementRead)
-            (e3 : statement_read q ≡ reading (statement_form_of c.cabinets (c.unknowns + c.records)) f start) where
-          -- so it starts where they end
-          own_read : statement_span f n ≡ span_from start (statement_read q)
-          own_read =
-              let l = end_got _ y start e2 d2 in
-              let g : reading (before_statement n) f 0 ≡ got (table) start =
-              before_read
-              ∙ bind_on (times n (statement_form (table))) (λ l. end (table)) f c.list l.0 start (same_reads ∙ l.1) in
-              span_there ∙ ap (span_at f) g ∙ ap (span_from start) (ap (λ (u : Form Statement). reading u f start) known.form ∙ sym e3)
+        pub own_refused : (k p : ℕ) → fault k p ≡ reading own_form f start → NoSpan
+        own_refused k p e = sym (own_read ∙ rw (← e) refl)
 
-          pub own_refused : (k p : ℕ) → q.end ≡ Faulty k p → span_of (record { start = 0; size = 0 }) ≡ statement_span f n
-          own_refused k p d = sym (own_read ∙ rw d refl)
-
-          module _ (next : ℕ) (d3 : q.end ≡ At next) where
-            pub own_forward : start ≤ next
-            own_forward =
-                (reading_within f (statement_form_of c.cabinets (c.unknowns + c.records)) start _ next (ended_at _ q.end _ e3 next d3)).0
-
-            pub own_found : span_of (record { start = start; size = next - start }) ≡ statement_span f n
-            own_found = sym (own_read ∙ rw d3 refl)
+        pub own_found : (q : Statement) (next : ℕ) → got q next ≡ reading own_form f start
+            → span_of (record { start = start; size = next - start }) ≡ statement_span f n
+        own_found q next e = sym (own_read ∙ rw (← e) refl)
 
   -- the span lies in the file
   span_from_in : (t : Table) (at : ℕ) → at ≤ length f → InFile f (span_from at (reading (statement_form t) f at))

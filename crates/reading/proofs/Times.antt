@@ -1,17 +1,19 @@
--- Laws of reading a form so many times: the first time and then the rest, how many values there are, and the turns of a loop
--- that keeps none of them.
+-- Laws of reading a form so many times: the first time and then the rest, how many values there are, and where reads end of
+-- which none is kept.
 use Prim.Native.Nat.{ℕ, zero, suc, ◌+◌, ◌-◌, ◌≤◌, ◌<◌}
 use mathlib.Core.Path.{◌≡◌, refl, sym, ap, ◌∙◌}
 use mathlib.Core.List.{List, [], ◌∷◌, ◌++◌, append_assoc}
 use native.Mathlib.Nat.{sub-zero}
 use native.Mathlib.Omega.{arith}
 use lib.ListN.{length}
-use Rattle.paper.specs.Files.{Form, end, ◌>>=◌, times, Read, got, fault, reading}
+use Rattle.paper.specs.Numbers.{Read, got, fault}
+use Rattle.paper.specs.Files.{Form, end, ◌>>=◌, times, reading}
 use Rattle.paper.proofs.Forms.{and_then, reading_bind}
-use Rattle.reading.specs.declared.End.{End}
-use Rattle.reading.specs.declared.End.TheVariants.{At, Refused}
-use Rattle.reading.specs.Reads.{read_to, end_of}
-use Rattle.reading.proofs.Ends.{ended_at, ended_refused}
+use Rattle.std.specs.Prelude.{Result, Ok, Err}
+use Rattle.paper.specs.Refusals.{refusal_number}
+use Rattle.paper.specs.declared.refused.Fault.{Fault}
+use Rattle.paper.specs.declared.Found.{Found}
+use Rattle.reading.specs.Reads.{read_as, Skipped}
 use Rattle.reading.proofs.Onward.{bind_got}
 
 module _ {A : Type 0} where
@@ -19,10 +21,6 @@ module _ {A : Type 0} where
   abbrev pub after : List A → Read (List A) → Read (List A)
   after l (got m to) = got (l ++ m) to
   after l (fault k p) = fault k p
-
-  pub after_end : (l : List A) (x : Read (List A)) → end_of (after l x) ≡ end_of x
-  after_end l (got m to) = refl
-  after_end l (fault k p) = refl
 
   pub after_after : (l m : List A) (x : Read (List A)) → after l (after m x) ≡ after (l ++ m) x
   after_after l m (got n to) = ap (λ (k : List A). got k to) (sym (append_assoc l m n))
@@ -60,31 +58,50 @@ module _ {A : Type 0} where
       let d : w.value ∷ v.value ≡ l = cc v.second in
       rw (← d) (ap suc (times_count m f n w.between v.value v.between v.first))
 
-  module _ (m : Form A) (f : List ℕ) (n at : ℕ) where
-    -- i times are read, up to `here`: the rest ends where the whole does
-    unfoldable pub SkippedTo : ℕ → ℕ → Type 0
-    SkippedTo i here = end_of (reading (times n m) f at) ≡ end_of (reading (times (n - i) m) f here)
+-- it ended there
+module _ {B : Type 0} where
+  abbrev pub EndsAs : Result ℕ Fault → Read B → Type 0
+  EndsAs (Ok to) x = (b : B) × (x ≡ got b to)
+  EndsAs (Err e) x = x ≡ fault (refusal_number e.refusal) e.at
 
-    pub none_skipped : SkippedTo 0 at
-    unfolding SkippedTo
-    none_skipped = rw sub-zero refl
+ends_after : {B : Type 0} (l : List B) (x : Read (List B)) (r : Result ℕ Fault) → EndsAs r x → EndsAs r (after l x)
+ends_after l x (Ok to) h = (l ++ h.0, rw (h.1) refl)
+ends_after l x (Err e) h = rw h refl
 
-    module _ (i here : ℕ) (h : SkippedTo i here) where
-      pub all_skipped : n ≤ i → At here ≡ end_of (reading (times n m) f at)
-      unfolding SkippedTo
-      all_skipped l = let z : n - i ≡ 0 = omega arith in sym (h ∙ rw z refl)
+-- where so many reads ended, the paper's read of so many ended
+module _ {A B : Type 0} (P : ℕ → Result (Found A) Fault → Type 0) (g : A → B) (m : Form B) (f : List ℕ)
+    (reads : (at : ℕ) (x : Result (Found A) Fault) → P at x → read_as g x ≡ reading m f at) where
+  pub skipped_ends : (n at : ℕ) (r : Result ℕ Fault) → Skipped P n at r → EndsAs r (reading (times n m) f at)
+  unfolding Skipped
+  skipped_ends zero at r h = rw h ([], refl)
+  skipped_ends (suc n) at r (Ok y, p, h) =
+      rw (first_read m f n at (g y.value) y.next (sym (reads at (Ok y) p)))
+      (ends_after (g y.value ∷ []) (reading (times n m) f y.next) r (skipped_ends n y.next r h))
+  skipped_ends (suc n) at r (Err e, p, h) = rw h (first_refused m f n at (refusal_number e.refusal) e.at (sym (reads at (Err e) p)))
 
-      module _ (l : i < n) (y : End) (a : A) (e : read_to y a ≡ reading m f here) where
-        one_left : n - i ≡ suc (n - (i + 1))
-        one_left = omega arith
+-- the turns of a loop that makes so many reads
+module _ {A : Type 0} (P : ℕ → Result (Found A) Fault → Type 0) (n at : ℕ) where
+  -- i of them are made, up to `here`: the rest end as all do
+  unfoldable pub SkippedTo : ℕ → ℕ → Type 0
+  SkippedTo i here = (r : Result ℕ Fault) → Skipped P (n - i) here r → Skipped P n at r
 
-        pub skip_refused : (k p : ℕ) → y ≡ Refused k p → y ≡ end_of (reading (times n m) f at)
-        unfolding SkippedTo
-        skip_refused k p d =
-            d ∙ sym (h ∙ rw (one_left, first_refused m f (n - (i + 1)) here k p (ended_refused a y (reading m f here) e k p d)) refl)
+  pub none_skipped : SkippedTo 0 at
+  unfolding SkippedTo
+  none_skipped = rw sub-zero (λ r h. h)
 
-        pub skip_one : (to : ℕ) → y ≡ At to → SkippedTo (i + 1) to
-        unfolding SkippedTo
-        skip_one to d =
-            h ∙ rw (one_left, first_read m f (n - (i + 1)) here a to (ended_at a y (reading m f here) e to d))
-            (after_end (a ∷ []) (reading (times (n - (i + 1)) m) f to))
+  module _ (i here : ℕ) (h : SkippedTo i here) where
+    pub all_skipped : n ≤ i → Skipped P n at (Ok here)
+    unfolding SkippedTo Skipped
+    all_skipped l = let z : n - i ≡ 0 = omega arith in h (Ok here) (rw z refl)
+
+    module _ (l : i < n) where
+      one_left : n - i ≡ suc (n - (i + 1))
+      one_left = omega arith
+
+      pub skip_refused : (e : Fault) → P here (Err e) → Skipped P n at (Err e)
+      unfolding SkippedTo Skipped
+      skip_refused e p = h (Err e) (rw one_left (Err e, p, refl))
+
+      pub skip_one : (y : Found A) → P here (Ok y) → SkippedTo (i + 1) y.next
+      unfolding SkippedTo Skipped
+      skip_one y p r k = h r (rw one_left (Ok y, p, k))

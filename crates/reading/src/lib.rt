@@ -1,12 +1,14 @@
 // The statement file, read: the sizes, a record, a statement, each with where the read ended; the whole file; statement n.
+// File and position stay two parameters: callers name both, and a cursor would be a type more and no line less.
 #![tactic(auto)]
 
 ghost use Rattle.std.specs.Prelude.{◌≡◌, ◌+◌, ◌≤◌};
 ghost use Rattle.paper.specs.Sizes.{most_cabinets, most_unknowns, most_records, most_parts};
-ghost use Rattle.paper.specs.Files.{times, record_form, reading, statement_span, statement_part};
-ghost use Rattle.reading.specs.Reads.{number_end, end_of, sizes_form, sizes_read, unread, parts_form, RecordFound, statement_form_of, statement_read, no_file, checked_file, span_of};
+ghost use Rattle.paper.specs.Found.{as_read};
+ghost use Rattle.paper.specs.Files.{record_form, reading, statement_span, statement_part};
+ghost use Rattle.reading.specs.Reads.{read_as, sizes_form, heading, parts_form, RecordFound, statement_form_of, statement_of, Skipped, checked_file, span_of};
 
-use paper::{Num, refusal, sizes};
+use paper::{Fault, Found, Refusal, sizes};
 
 // One more than the paper's most_cabinets.
 const CABINETS_BELOW: u64 = sizes::MOST_CABINETS as u64 + 1;
@@ -23,41 +25,31 @@ const PARTS_BELOW: u64 = sizes::MOST_PARTS as u64 + 1;
 // One more than the paper's most_statements.
 const STATEMENTS_BELOW: u64 = sizes::MOST_STATEMENTS as u64 + 1;
 
-// Where a read ended: the next position; or a refusal and the position where the faulty number starts.
-#[derive(Clone, Copy)]
-pub enum End {
-    At(usize),
-    Refused(usize, usize),
-}
-
-// S, V and R, if the read was not refused.
+// S, V and R.
 #[derive(Clone, Copy)]
 struct Sizes {
     cabinets: usize,
     unknowns: usize,
     records: usize,
-    end: End,
 }
 
-// A record, if the read was not refused: its symbol, its part count, and its parts, 0 beyond the count.
+// A record: its symbol, its part count, and its parts, 0 beyond the count.
 #[derive(Clone, Copy)]
 pub struct RecordRead {
     pub symbol: u64,
     pub count: usize,
     pub parts: [u8; sizes::MOST_PARTS],
-    pub end: End,
 }
 
-// A statement, if the read was not refused.
+// A statement.
 #[derive(Clone, Copy)]
 pub struct StatementRead {
     pub cabinet: u8,
     pub left: u8,
     pub right: u8,
-    pub end: End,
 }
 
-// S, V, R and E, where the table of records starts, and where the list of statements starts, if the file was not refused.
+// S, V, R and E, where the table of records starts, and where the list of statements starts.
 #[derive(Clone, Copy)]
 pub struct Checked {
     pub cabinets: usize,
@@ -66,7 +58,6 @@ pub struct Checked {
     pub statements: usize,
     pub table: usize,
     pub list: usize,
-    pub end: End,
 }
 
 // A part of a file: where it starts, and its length.
@@ -77,265 +68,169 @@ pub struct Span {
     pub size: usize,
 }
 
-// Where the read of a number ended.
-fn number_end(read: Num) -> End
-    ensures { result ≡ number_end read }
-{
-    match read {
-        Num::Got(_, next) => End::At(next),
-        Num::Refused(refusal, at) => End::Refused(refusal, at),
-    }
-}
-
-// No sizes, where the read of a number was refused.
-fn no_sizes(read: Num) -> Sizes
-    ensures { result.end ≡ number_end read }
-{
-    Sizes {
-        cabinets: 0,
-        unknowns: 0,
-        records: 0,
-        end: number_end(read),
-    }
-}
-
 // S, V and R, at the start of the file.
-fn read_sizes(file: &[u8]) -> Sizes
-    ensures { sizes_read result ≡ reading sizes_form file.now 0 }
+fn read_sizes(file: &[u8]) -> Result<Found<Sizes>, Fault>
+    ensures { read_as heading result ≡ reading sizes_form file.now 0 }
 {
-    let first = numbers::ranged_at(file, 0, 1, CABINETS_BELOW, refusal::BAD_CABINETS);
-    let Num::Got(s, at_unknowns) = first else {
-        return no_sizes(first);
+    let s = numbers::ranged_at(file, 0, 1, CABINETS_BELOW, Refusal::BadCabinets)?;
+    let v = numbers::ranged_at(file, s.next, 0, UNKNOWNS_BELOW, Refusal::BadUnknowns)?;
+    let r = numbers::ranged_at(file, v.next, 0, RECORDS_BELOW, Refusal::BadRecords)?;
+    let value = Sizes {
+        cabinets: s.value as usize,
+        unknowns: v.value as usize,
+        records: r.value as usize,
     };
-    let second = numbers::ranged_at(file, at_unknowns, 0, UNKNOWNS_BELOW, refusal::BAD_UNKNOWNS);
-    let Num::Got(v, at_records) = second else {
-        return no_sizes(second);
-    };
-    let third = numbers::ranged_at(file, at_records, 0, RECORDS_BELOW, refusal::BAD_RECORDS);
-    let Num::Got(r, next) = third else {
-        return no_sizes(third);
-    };
-    Sizes {
-        cabinets: s as usize,
-        unknowns: v as usize,
-        records: r as usize,
-        end: End::At(next),
-    }
-}
-
-// No record, where the read of a number was refused.
-fn no_record(read: Num) -> RecordRead
-    ensures { result ≡ unread (number_end read) }
-{
-    RecordRead {
-        symbol: 0,
-        count: 0,
-        parts: [0u8; sizes::MOST_PARTS],
-        end: number_end(read),
-    }
+    Ok(Found {
+        value,
+        next: r.next,
+    })
 }
 
 // The record of that symbol with `count` parts at `at`, each below v.
-fn read_parts(file: &[u8], at: usize, v: usize, symbol: u64, count: usize) -> RecordRead
+fn read_parts(
+    file: &[u8],
+    at: usize,
+    v: usize,
+    symbol: u64,
+    count: usize,
+) -> Result<Found<RecordRead>, Fault>
     requires { (v ≤ most_unknowns) × (count ≤ most_parts) }
     ensures { RecordFound (parts_form v symbol count) file.now at result }
 {
     let mut parts = [0u8; sizes::MOST_PARTS];
-    let mut i: usize = 0;
     let mut here = at;
-    while i < count {
-        let read = numbers::ranged_at(file, here, 0, v as u64, refusal::PART_NOT_UNKNOWN);
-        let Num::Got(part, next) = read else {
-            return no_record(read);
-        };
-        parts[i] = part as u8;
-        here = next;
-        i += 1;
+    for i in 0..count {
+        let part = numbers::ranged_at(file, here, 0, v as u64, Refusal::PartNotUnknown)?;
+        parts[i] = part.value as u8;
+        here = part.next;
     }
-    RecordRead {
+    let value = RecordRead {
         symbol,
         count,
         parts,
-        end: End::At(here),
-    }
+    };
+    Ok(Found { value, next: here })
 }
 
 // The record at `at`, with v unknowns: its symbol, its part count and its parts.
-pub fn read_record(file: &[u8], at: usize, v: usize) -> RecordRead
+pub fn read_record(file: &[u8], at: usize, v: usize) -> Result<Found<RecordRead>, Fault>
     requires { v ≤ most_unknowns }
     ensures { RecordFound (record_form v) file.now at result }
 {
-    let first = numbers::ranged_at(file, at, 0, sizes::NUMBER_LIMIT, refusal::BAD_NUMBER);
-    let Num::Got(symbol, at_count) = first else {
-        return no_record(first);
-    };
-    let second = numbers::ranged_at(file, at_count, 0, PARTS_BELOW, refusal::TOO_MANY_PARTS);
-    let Num::Got(count, at_parts) = second else {
-        return no_record(second);
-    };
-    read_parts(file, at_parts, v, symbol, count as usize)
-}
-
-// No statement, where the read of a number was refused.
-fn no_statement(read: Num) -> StatementRead
-    ensures { result.end ≡ number_end read }
-{
-    StatementRead {
-        cabinet: 0,
-        left: 0,
-        right: 0,
-        end: number_end(read),
-    }
+    let symbol = numbers::ranged_at(file, at, 0, sizes::NUMBER_LIMIT, Refusal::BadNumber)?;
+    let count = numbers::ranged_at(file, symbol.next, 0, PARTS_BELOW, Refusal::TooManyParts)?;
+    read_parts(file, count.next, v, symbol.value, count.value as usize)
 }
 
 // The statement at `at`, with s cabinets and n entries: its cabinet and its two sides.
-pub fn read_statement(file: &[u8], at: usize, s: usize, n: usize) -> StatementRead
+pub fn read_statement(
+    file: &[u8],
+    at: usize,
+    s: usize,
+    n: usize,
+) -> Result<Found<StatementRead>, Fault>
     requires { (s ≤ most_cabinets) × (n ≤ most_unknowns + most_records) }
-    ensures { statement_read result ≡ reading (statement_form_of s n) file.now at }
+    ensures { read_as statement_of result ≡ reading (statement_form_of s n) file.now at }
 {
-    let first = numbers::ranged_at(file, at, 0, s as u64, refusal::NO_SUCH_CABINET);
-    let Num::Got(cabinet, at_left) = first else {
-        return no_statement(first);
+    let cabinet = numbers::ranged_at(file, at, 0, s as u64, Refusal::NoSuchCabinet)?;
+    let left = numbers::ranged_at(file, cabinet.next, 0, n as u64, Refusal::NoSuchEntry)?;
+    let right = numbers::ranged_at(file, left.next, 0, n as u64, Refusal::NoSuchEntry)?;
+    let value = StatementRead {
+        cabinet: cabinet.value as u8,
+        left: left.value as u8,
+        right: right.value as u8,
     };
-    let second = numbers::ranged_at(file, at_left, 0, n as u64, refusal::NO_SUCH_ENTRY);
-    let Num::Got(left, at_right) = second else {
-        return no_statement(second);
-    };
-    let third = numbers::ranged_at(file, at_right, 0, n as u64, refusal::NO_SUCH_ENTRY);
-    let Num::Got(right, next) = third else {
-        return no_statement(third);
-    };
-    StatementRead {
-        cabinet: cabinet as u8,
-        left: left as u8,
-        right: right as u8,
-        end: End::At(next),
-    }
+    Ok(Found {
+        value,
+        next: right.next,
+    })
 }
 
-// Where `count` records from `at` on end, with v unknowns.
-fn skip_records(file: &[u8], at: usize, v: usize, count: usize) -> End
-    requires { v ≤ most_unknowns }
-    ensures { result ≡ end_of (reading (times count (record_form v)) file.now at) }
+// Where `count` reads from `at` on end, each from where the one before ended.
+fn skip<T: Copy, F: Fn(usize) -> Result<Found<T>, Fault>>(
+    at: usize,
+    count: usize,
+    read: F,
+) -> Result<usize, Fault>
+    requires { F.IsAlwaysCallable read }
+    ensures { Skipped (F.post read) count at result }
 {
-    let mut i: usize = 0;
     let mut here = at;
-    while i < count {
-        let record = read_record(file, here, v);
-        let end = record.end;
-        let End::At(next) = end else {
-            return end;
-        };
-        here = next;
-        i += 1;
+    for _ in 0..count {
+        here = read(here)?.next;
     }
-    End::At(here)
-}
-
-// Where `count` statements from `at` on end, with s cabinets and n entries.
-fn skip_statements(file: &[u8], at: usize, s: usize, n: usize, count: usize) -> End
-    requires { (s ≤ most_cabinets) × (n ≤ most_unknowns + most_records) }
-    ensures { result ≡ end_of (reading (times count (statement_form_of s n)) file.now at) }
-{
-    let mut i: usize = 0;
-    let mut here = at;
-    while i < count {
-        let statement = read_statement(file, here, s, n);
-        let end = statement.end;
-        let End::At(next) = end else {
-            return end;
-        };
-        here = next;
-        i += 1;
-    }
-    End::At(here)
-}
-
-// No file, where a read was refused.
-fn no_file(end: End) -> Checked
-    ensures { result ≡ no_file end }
-{
-    Checked {
-        cabinets: 0,
-        unknowns: 0,
-        records: 0,
-        statements: 0,
-        table: 0,
-        list: 0,
-        end,
-    }
+    Ok(here)
 }
 
 // The whole file: sizes, records, E, statements, and no byte left.
-pub fn check_file(file: &[u8]) -> Checked
-    ensures { result ≡ checked_file file.now }
+pub fn check_file(file: &[u8]) -> Result<Found<Checked>, Fault>
+    ensures { as_read result ≡ checked_file file.now }
 {
-    let sizes = read_sizes(file);
-    let sizes_end = sizes.end;
-    let End::At(table) = sizes_end else {
-        return no_file(sizes_end);
-    };
-    let s = sizes.cabinets;
-    let v = sizes.unknowns;
-    let r = sizes.records;
-    let records_end = skip_records(file, table, v, r);
-    let End::At(count_at) = records_end else {
-        return no_file(records_end);
-    };
+    let sizes = read_sizes(file)?;
+    let Sizes {
+        cabinets,
+        unknowns,
+        records,
+    } = sizes.value;
+    let entries = unknowns + records;
+    let count_at = skip(sizes.next, records, |at| read_record(file, at, unknowns))?;
     let count = numbers::ranged_at(
         file,
         count_at,
         0,
         STATEMENTS_BELOW,
-        refusal::TOO_MANY_STATEMENTS,
-    );
-    let Num::Got(e, list) = count else {
-        return no_file(number_end(count));
-    };
-    let statements_end = skip_statements(file, list, s, v + r, e as usize);
-    let End::At(end) = statements_end else {
-        return no_file(statements_end);
-    };
+        Refusal::TooManyStatements,
+    )?;
+    let statements = count.value as usize;
+    let end = skip(
+        count.next,
+        statements,
+        |at| read_statement(file, at, cabinets, entries),
+    )?;
     if end < file.len() {
-        return no_file(End::Refused(refusal::BYTES_LEFT, end));
+        return Err(Fault {
+            refusal: Refusal::BytesLeft,
+            at: end,
+        });
     }
-    Checked {
-        cabinets: s,
-        unknowns: v,
-        records: r,
-        statements: e as usize,
-        table,
-        list,
-        end: End::At(end),
-    }
+    let value = Checked {
+        cabinets,
+        unknowns,
+        records,
+        statements,
+        table: sizes.next,
+        list: count.next,
+    };
+    Ok(Found { value, next: end })
 }
 
 // Where statement n stands; the empty part at 0 if the file is refused or has no statement n.
 pub fn find_statement(file: &[u8], n: usize) -> Span
     ensures { span_of result ≡ statement_span file.now n }
 {
-    let checked = check_file(file);
-    let end = checked.end;
-    let End::At(_) = end else {
-        return Span { start: 0, size: 0 };
+    let none = Span { start: 0, size: 0 };
+    let Ok(found) = check_file(file) else {
+        return none;
     };
+    let checked = found.value;
     if checked.statements <= n {
-        return Span { start: 0, size: 0 };
+        return none;
     }
-    let s = checked.cabinets;
+    let cabinets = checked.cabinets;
     let entries = checked.unknowns + checked.records;
-    let before = skip_statements(file, checked.list, s, entries, n);
-    let End::At(start) = before else {
-        return Span { start: 0, size: 0 };
+    let Ok(start) = skip(
+        checked.list,
+        n,
+        |at| read_statement(file, at, cabinets, entries),
+    ) else {
+        return none;
     };
-    let statement = read_statement(file, start, s, entries);
-    let statement_end = statement.end;
-    let End::At(next) = statement_end else {
-        return Span { start: 0, size: 0 };
+    let Ok(statement) = read_statement(file, start, cabinets, entries) else {
+        return none;
     };
     Span {
         start,
-        size: next - start,
+        size: statement.next - start,
     }
 }
 
@@ -344,7 +239,5 @@ pub fn statement(file: &[u8], n: usize) -> &[u8]
     ensures { result.now ≡ statement_part file.now n }
 {
     let span = find_statement(file, n);
-    let start = span.start;
-    let end = start + span.size;
-    &file[start..end]
+    &file[span.start..span.start + span.size]
 }

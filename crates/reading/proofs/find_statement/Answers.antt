@@ -1,30 +1,46 @@
 -- `find_statement` meets its contract: one law of statement n for each way out.
+use Rattle.std.proofs.Common.{rules, of_calls, ◌+◌}
+use Rattle.reading.proofs.FileChecks.{statements_end}
 use Rattle.reading.proofs.Spans.{refused_no_span, no_such_statement, cabinets_few, entries_few, entries_fit, before_refused, own_refused, own_forward, own_found}
 use Rattle.reading.proofs.find_statement.Goals as goal
 
 pub returns-in_default : goal.returns-in_default
-returns-in_default c = search refused_no_span
+returns-in_default c = refused_no_span _ _ _ _ c.in_default.ensures
 
 pub returns-then-checked-n : goal.returns-then-checked-n
-returns-then-checked-n c = search no_such_statement
+returns-then-checked-n c = no_such_statement _ _ _ _ c.in-Ok.ensures c.if-checked-n.true
 
 pub overflow_add-entries : goal.overflow_add-entries
-overflow_add-entries c = search entries_fit
+overflow_add-entries c = entries_fit _ c.args.n _ _ c.in-Ok.ensures
 
-pub skip_statements-before-requires : goal.skip_statements-before-requires
-skip_statements-before-requires c = search (cabinets_few, entries_few)
+pub skip-requires : goal.skip-requires
+skip-requires c =
+    let h = cabinets_few _ c.args.n _ _ c.in-Ok.ensures in
+    let k = entries_few _ c.args.n _ _ c.in-Ok.ensures in
+    search of_calls
 
-pub returns-in_default-before : goal.returns-in_default-before
-returns-in_default-before c = search before_refused
+pub returns-in_default-skip : goal.returns-in_default-skip
+returns-in_default-skip c =
+    let x = c.in-Ok.found.value in
+    before_refused _ _ _ _ c.in-Ok.ensures c.if-checked-n.false _
+    (statements_end x.cabinets (x.unknowns + x.records) c.args.file.now (λ at r p. search rules) _ _ _ c.in_default-skip.ensures)
 
-pub read_statement-statement-requires : goal.read_statement-statement-requires
-read_statement-statement-requires c = search (cabinets_few, entries_few)
+pub read_statement-requires : goal.read_statement-requires
+read_statement-requires c = (cabinets_few _ c.args.n _ _ c.in-Ok.ensures, entries_few _ c.args.n _ _ c.in-Ok.ensures)
 
-pub returns-in_default-statement_end : goal.returns-in_default-statement_end
-returns-in_default-statement_end c = search own_refused
+pub returns-in_default-read_statement : goal.returns-in_default-read_statement
+returns-in_default-read_statement c =
+    let x = c.in-Ok.found.value in
+    own_refused _ _ _ _ c.in-Ok.ensures c.if-checked-n.false _
+    (statements_end x.cabinets (x.unknowns + x.records) c.args.file.now (λ at r p. search rules) _ _ _ c.in-Ok-skip.ensures)
+    _ _ c.in_default-read_statement.ensures
 
 pub overflow_sub-result : goal.overflow_sub-result
-overflow_sub-result c = search own_forward
+overflow_sub-result c = own_forward _ _ _ _ _ _ c.in-Ok-read_statement.ensures
 
 pub returns : goal.returns
-returns c = search own_found
+returns c =
+    let x = c.in-Ok.found.value in
+    own_found _ _ _ _ c.in-Ok.ensures c.if-checked-n.false _
+    (statements_end x.cabinets (x.unknowns + x.records) c.args.file.now (λ at r p. search rules) _ _ _ c.in-Ok-skip.ensures)
+    _ _ c.in-Ok-read_statement.ensures

@@ -1,24 +1,13 @@
--- `read_statement` meets its contract: one law of a statement for each way out.
-use Rattle.reading.proofs.StatementReads.{cabinet_refused, cabinet_fits, left_refused, right_refused, below_fits, statement_read_lem}
+-- `read_statement` meets its contract: what it reads is below what a byte holds.
+use Rattle.std.proofs.Common.{arith}
+use Rattle.numbers.proofs.Reading.{ranged_below}
 use Rattle.reading.proofs.read_statement.Goals as goal
 
-pub returns-in_default : goal.returns-in_default
-returns-in_default c = search cabinet_refused
+pub overflow_cast-value : goal.overflow_cast-value
+overflow_cast-value c = omega (arith, ranged_below _ _ _ _ _ _ _ c.in_ok-cabinet.ensures)
 
-pub returns-in_default-second : goal.returns-in_default-second
-returns-in_default-second c = search left_refused
+pub overflow_cast-value-2 : goal.overflow_cast-value-2
+overflow_cast-value-2 c = omega (arith, ranged_below _ _ _ _ _ _ _ c.in_ok-left.ensures)
 
-pub returns-in_default-third : goal.returns-in_default-third
-returns-in_default-third c = search right_refused
-
-pub overflow_cast-result : goal.overflow_cast-result
-overflow_cast-result c = search cabinet_fits
-
-pub overflow_cast-result-2 : goal.overflow_cast-result-2
-overflow_cast-result-2 c = search below_fits
-
-pub overflow_cast-result-3 : goal.overflow_cast-result-3
-overflow_cast-result-3 c = search below_fits
-
-pub returns : goal.returns
-returns c = search statement_read_lem
+pub overflow_cast-value-3 : goal.overflow_cast-value-3
+overflow_cast-value-3 c = omega (arith, ranged_below _ _ _ _ _ _ _ c.in_ok-right.ensures)
