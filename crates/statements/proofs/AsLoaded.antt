@@ -1,27 +1,26 @@
 -- "As loading some file leaves it" is the test that writing makes of a sound run: what a loaded run passes, and only a loaded
 -- run passes.
-use mathlib.Core.Path.{◌≡◌, refl, sym, subst, ap, ◌∙◌, fun_ext}
-use mathlib.Core.Bool.{Bool, true, false, ◌&&◌}
+use mathlib.Core.Path.{◌≡◌, refl, sym, subst, ap, ◌∙◌}
+use mathlib.Core.Bool.{true, false}
 use mathlib.Core.List.{List, [], ◌∷◌, map}
-use mathlib.Core.Option.{none, some}
+use mathlib.Core.Option.{none}
 use Prim.Native.Nat.{ℕ, zero, suc, ◌+◌, ◌-◌, ◌/◌, ◌%◌, ◌≤◌, ◌<◌}
 use Rattle.std.proofs.Common.{arith}
 use Rattle.std.proofs.lemmas.Bool.Decides.{nat_tests}
-use borrow.Author.Tests.{ltb-true, ltb-false, lt-ltb, eqb-true, eqb-false, eq-eqb}
-use lib.Dec.{ltb, eqb}
+use borrow.Author.Tests.{eqb-true, eq-eqb}
+use lib.Dec.{eqb}
+use native.Mathlib.Nat.{add-zero, add-suc, suc-add, zero-add}
 use lib.ListN.{length, length-map}
-use Rattle.base.specs.Choice.{pick}
 use Rattle.base.specs.Lists.{list_from}
-use Rattle.base.proofs.Tests.{fst_true, snd_true}
 use Rattle.base.proofs.Ranges.{below_each, each_below}
 use Rattle.base.proofs.Froms.{from_length, from_same, from_all, all_from}
 use Rattle.paper.specs.Sizes.{most_cabinets, most_unknowns}
-use Rattle.paper.specs.Runs.{nothing, initiated, entry, Statement, State, Run, as_item, initial, ItemOk, Sound}
+use Rattle.paper.specs.Runs.{nothing, Statement, State, Run, as_item, initial, ItemOk, Sound}
 use Rattle.paper.specs.Reached.{StatementOk, FileOk}
 use Rattle.paper.specs.declared.Item.{Item}
-use Rattle.paper.specs.declared.Item.TheVariants.{Statement as statement, Ask as ask, News as news}
-use Rattle.layout.specs.Offsets.{clash_at, clash_cabinet_at, statements_at, owners_at, stores_at, memos_at, pending_at, store_from, memo_from, item_from}
-use Rattle.layout.specs.Fields.{byte_at, clash_of, count_of, owner_mark, store_mark, owner_of, mark_of, pair_of, item_of_bytes, item_at, items_from, table_of, state_of, run_of}
+use Rattle.paper.specs.declared.Item.TheVariants.{Statement as statement}
+use Rattle.layout.specs.Offsets.{clash_at, statements_at, owners_at, stores_at, memos_at, pending_at, store_from, memo_from, item_from}
+use Rattle.layout.specs.Fields.{byte_at, clash_of, count_of, owner_of, mark_of, pair_of, item_of_bytes, item_at, items_from, table_of, state_of, run_of}
 use Rattle.layout.specs.Soundness.{all_are}
 use Rattle.layout.proofs.Canonical.{Canonical}
 use Rattle.statements.specs.Writes.{all_statements, as_loaded, statement_at, file_of}
@@ -153,25 +152,16 @@ module _ (d : List ℕ) (qs : List Statement) (run : run_of d ≡ initial qs) (z
       grind (arith, nat_tests)
 
   marks_255 : (i : ℕ) → owners_at ≤ i → i < memos_at → byte_at d i ≡ 255
-  marks_255 i a b = go (ltb i stores_at) refl
-    where
-      go : (p : Bool) → ltb i stores_at ≡ p → byte_at d i ≡ 255
-      go true e =
-          let m : owners_at + (i - owners_at) ≡ i = omega arith in
-          subst (λ (j : ℕ). byte_at d j ≡ 255) m (owner_255 (i - owners_at) (omega (arith, ltb-true i stores_at e)))
-      go false e =
-          let h : stores_at ≤ i = ltb-false i stores_at e in
-          let c : ℕ = (i - stores_at) / most_unknowns in
-          let x : ℕ = (i - stores_at) % most_unknowns in
-          let m : store_from c + x ≡ i = omega arith in
-          subst (λ (j : ℕ). byte_at d j ≡ 255) m (store_255 c x (omega arith) (omega arith))
+  marks_255 i a b =
+      let o = owner_255 (i - owners_at) in
+      let t = store_255 ((i - stores_at) / most_unknowns) ((i - stores_at) % most_unknowns) in
+      grind arith
 
   memos_0 : (i : ℕ) → memos_at ≤ i → i < pending_at → byte_at d i ≡ 0
   memos_0 i a b =
-      let c : ℕ = (i - memos_at) / 1024 in
       let k : ℕ = (i - memos_at) % 1024 in
-      let m : memo_from c (k / most_unknowns) (k % most_unknowns) ≡ i = omega arith in
-      subst (λ (j : ℕ). byte_at d j ≡ 0) m (memo_0 c (k / most_unknowns) (k % most_unknowns) (omega arith) (omega arith) (omega arith))
+      let m = memo_0 ((i - memos_at) / 1024) (k / most_unknowns) (k % most_unknowns) in
+      grind arith
 
   pending_is : items_from d (count_of d) 0 ≡ map as_item qs
   unfolding run_of initial
@@ -185,27 +175,18 @@ module _ (d : List ℕ) (qs : List Statement) (run : run_of d ≡ initial qs) (z
   count_is = sym (from_length (item_at d) (count_of d) 0) ∙ ap length pending_is ∙ length-map qs as_item ∙ sym stated_is
 
   -- each item is the statement in its place
-  each_item : (l : List Statement) (n p : ℕ) → list_from (item_at d) n p ≡ map as_item l → (k : ℕ) → p ≤ k → k < p + n → (q : Statement) × (item_at d k ≡ as_item q)
-  each_item [] zero p e k a b = absurd (omega arith)
-  each_item [] (suc n) p e k a b = absurd cc
-  each_item (q ∷ l) zero p e k a b = absurd (omega arith)
-  each_item (q ∷ l) (suc n) p e k a b = go (ltb p k) refl (λ h. each_item l n (suc p) tail k h (omega arith))
-    where
-      first : item_at d p ≡ as_item q
-      first = cc
-
-      tail : list_from (item_at d) n (suc p) ≡ map as_item l
-      tail = cc
-
-      go : (c : Bool) → ltb p k ≡ c → (suc p ≤ k → (q' : Statement) × (item_at d k ≡ as_item q')) → (q' : Statement) × (item_at d k ≡ as_item q')
-      go true f later = later (ltb-true p k f)
-      go false f later = let m : p ≡ k = omega (arith, ltb-false p k f) in (q, subst (λ (j : ℕ). item_at d j ≡ as_item q) m first)
+  each_item : (l : List Statement) (n p : ℕ) → list_from (item_at d) n p ≡ map as_item l → (k : ℕ) → k < n → (q : Statement) × (item_at d (p + k) ≡ as_item q)
+  each_item [] zero p e k b = absurd (omega arith)
+  each_item [] (suc n) p e k b = absurd cc
+  each_item (q ∷ l) zero p e k b = absurd (omega arith)
+  each_item (q ∷ l) (suc n) p e zero b = (q, rw add-zero cc)
+  each_item (q ∷ l) (suc n) p e (suc k) b = let r = each_item l n (suc p) (cc) k (omega arith) in (r.0, rw (add-suc, ← suc-add) r.1)
 
   kinds_1 : (p : ℕ) → p < byte_at d statements_at → byte_at d (item_from p) ≡ 1
   unfolding item_at
   kinds_1 p h =
-      let w = each_item qs (count_of d) 0 pending_is p (omega arith) (omega (arith, count_is)) in
-      kind_1 (byte_at d (item_from p)) (byte_at d (item_from p + 1)) (byte_at d (item_from p + 2)) (byte_at d (item_from p + 3)) w.0.cabinet w.0.left w.0.right w.1
+      let w = each_item qs (count_of d) 0 pending_is p (omega (arith, count_is)) in
+      kind_1 (byte_at d (item_from p)) (byte_at d (item_from p + 1)) (byte_at d (item_from p + 2)) (byte_at d (item_from p + 3)) w.0.cabinet w.0.left w.0.right (rw zero-add at w.1)
 
   pub initial_as_loaded : AsLoadedBytes d
   initial_as_loaded = record { running = running; count = count_is; marks = marks_255; memos = memos_0; kinds = kinds_1 }

@@ -6,11 +6,9 @@ use mathlib.Core.List.{List}
 use mathlib.Core.Option.{none}
 use Rattle.std.proofs.Common.{arith}
 use Rattle.std.proofs.lemmas.Bool.Decides.{nat_tests}
-use Rattle.base.specs.Choice.{pick}
-use Rattle.paper.specs.Sizes.{most_cabinets, most_unknowns}
 use Rattle.paper.specs.Runs.{nothing, Statement, initial}
 use Rattle.layout.specs.Offsets.{clash_at, owners_at, memos_at, pending_at, store_from, memo_from}
-use Rattle.layout.specs.Fields.{byte_at, clash_of, owner_mark, store_mark, owner_of, mark_of, pair_of, state_of}
+use Rattle.layout.specs.Fields.{byte_at, clash_of, owner_of, mark_of, pair_of, state_of}
 
 module _ (d : List ℕ) (running : byte_at d clash_at ≡ 0) (marks : (i : ℕ) → owners_at ≤ i → i < memos_at → byte_at d i ≡ 255)
     (memos : (i : ℕ) → memos_at ≤ i → i < pending_at → byte_at d i ≡ 0) where

@@ -1,32 +1,26 @@
 -- What loading leaves views as the paper's initial run of the file's table and statements, and is sound.
-use mathlib.Core.Path.{◌≡◌, refl, sym, subst, ap, ap₂, ◌∙◌, fun_ext}
-use mathlib.Core.Logic.{◌⊎◌, inl, inr, ⊎_elim, ◌≢◌}
-use mathlib.Core.Bool.{Bool, true, false, ◌&&◌}
+use mathlib.Core.Path.{◌≡◌, refl, sym, subst, ap, ap₂, ◌∙◌}
+use mathlib.Core.Logic.{◌⊎◌, inl, inr, ◌≢◌}
+use mathlib.Core.Bool.{true}
 use mathlib.Core.List.{List, [], ◌∷◌, ◌++◌, map}
-use mathlib.Core.Option.{none}
 use Prim.Native.Nat.{ℕ, zero, suc, ◌+◌, ◌-◌, ◌*◌, ◌/◌, ◌^◌, ◌≤◌, ◌<◌}
-use native.Mathlib.Nat.{pow-suc, add-zero, add-suc, zero-add, suc-add}
-use native.Mathlib.Decide.{ℕ_discrete}
-use native.Mathlib.Omega.{arith}
-use borrow.Author.Tests.{ltb-true}
-use lib.Dec.{ltb, eqb}
-use lib.ListN.{length, get_or, replicate, length-replicate, get_or-replicate, length-append, length-map, get_or-append}
+use native.Mathlib.Nat.{pow-suc, zero-add}
+use Rattle.std.proofs.Common.{arith}
+use Rattle.std.proofs.lemmas.Grind.{common_steps}
+use lib.ListN.{length, get_or, replicate, length-replicate, length-append, length-map, get_or-append}
 use lib.Seq.{ext_get_or}
-use Rattle.base.specs.Choice.{pick}
 use Rattle.base.specs.Lists.{list_from, All}
 use Rattle.base.specs.Regions.{get}
-use Rattle.base.proofs.Tests.{fst_true, snd_true}
 use Rattle.base.proofs.Froms.{from_same}
-use Rattle.base.proofs.Positions.{get_d_past}
 use Rattle.base.proofs.Regions.{length_put, put_before, put_in, put_after, get_at, length_get, get_same, lt_or_le}
-use Rattle.paper.specs.Sizes.{most_cabinets, most_unknowns, most_records, most_parts, room, number_limit}
+use Rattle.paper.specs.Sizes.{most_records, most_parts, room, number_limit}
 use Rattle.paper.specs.Tables.{Record, Table, RecordOk}
-use Rattle.paper.specs.Runs.{nothing, Run, as_item, initial, Sound}
+use Rattle.paper.specs.Runs.{Run, as_item, initial, Sound}
 use Rattle.paper.specs.Files.{File}
 use Rattle.paper.specs.Reached.{FileOk}
 use Rattle.paper.proofs.Soundness.{loaded_sound}
-use Rattle.layout.specs.Offsets.{symbol_bytes, record_bytes, clash_at, clash_cabinet_at, cabinets_at, records_at, count_at, table_at, owners_at, memos_at, run_bytes, record_from, store_from, memo_from}
-use Rattle.layout.specs.Fields.{byte_at, value_of, bytes_of, clash_of, count_of, symbol_of, part_count_of, part_of, parts_from, record_of, records_from, owner_mark, store_mark, owner_of, mark_of, pair_of, items_from, table_of, state_of, run_of}
+use Rattle.layout.specs.Offsets.{symbol_bytes, record_bytes, clash_at, clash_cabinet_at, cabinets_at, records_at, count_at, table_at, owners_at, memos_at, run_bytes, record_from, memo_from}
+use Rattle.layout.specs.Fields.{byte_at, value_of, bytes_of, count_of, symbol_of, part_count_of, part_of, parts_from, record_of, records_from, items_from, table_of, state_of, run_of}
 use Rattle.layout.specs.Soundness.{sound_bytes}
 use Rattle.layout.specs.Changes.{cleared, with_sizes, with_record, with_records}
 use Rattle.layout.proofs.Frames.{Same, Shaped}
@@ -38,44 +32,35 @@ use Rattle.statements.specs.Loads.{loaded_bytes}
 use Rattle.statements.proofs.Bare.{bare_state}
 
 -- the cleared buffer: 0 but for the marks
-abbrev before : List ℕ
-before = replicate owners_at 0
-
-abbrev marks : List ℕ
-marks = replicate (memos_at - owners_at) 255
-
-abbrev rest : List ℕ
-rest = replicate (run_bytes - memos_at) 0
-
-before_length : length before ≡ owners_at
-before_length = length-replicate {A = ℕ} owners_at 0
-
-marks_length : length marks ≡ memos_at - owners_at
-marks_length = length-replicate {A = ℕ} (memos_at - owners_at) 255
-
-rest_length : length rest ≡ run_bytes - memos_at
-rest_length = length-replicate {A = ℕ} (run_bytes - memos_at) 0
-
 pub length_cleared : length cleared ≡ run_bytes
 unfolding cleared
-length_cleared = omega (arith, length-append before (marks ++ rest), length-append marks rest, before_length, marks_length, rest_length)
+length_cleared = omega (arith, length-append {A = ℕ}, length-replicate {A = ℕ})
+
+-- the steps of `grind` at lengths that are no numerals
+module _ (a b c i : ℕ) where
+  abbrev regions : List ℕ
+  regions = replicate a 0 ++ (replicate b 255 ++ replicate c 0)
+
+  in_first : i < a → get_or regions i 0 ≡ 0
+  in_first h = grind (arith, common_steps)
+
+  in_second : a ≤ i → i < a + b → get_or regions i 0 ≡ 255
+  in_second h k = grind (arith, common_steps)
+
+  in_third : a + b ≤ i → get_or regions i 0 ≡ 0
+  in_third h = grind (arith, common_steps)
 
 pub cleared_low : (i : ℕ) → i < owners_at → byte_at cleared i ≡ 0
 unfolding cleared
-cleared_low i h = get_or-append before (marks ++ rest) 0 i (omega (arith, before_length)) ∙ get_or-replicate owners_at i 0 0 h
+cleared_low i h = in_first owners_at (memos_at - owners_at) (run_bytes - memos_at) i h
 
 pub cleared_marks : (i : ℕ) → owners_at ≤ i → i < memos_at → byte_at cleared i ≡ 255
 unfolding cleared
-cleared_marks i a b =
-    get_d_past before (marks ++ rest) owners_at i before_length a
-    ∙ get_or-append marks rest 0 (i - owners_at) (omega (arith, marks_length)) ∙ get_or-replicate (memos_at - owners_at) (i - owners_at) 255 0 (omega arith)
+cleared_marks i h k = in_second owners_at (memos_at - owners_at) (run_bytes - memos_at) i h k
 
-pub cleared_rest : (i : ℕ) → memos_at ≤ i → i < run_bytes → byte_at cleared i ≡ 0
+pub cleared_rest : (i : ℕ) → memos_at ≤ i → byte_at cleared i ≡ 0
 unfolding cleared
-cleared_rest i a b =
-    get_d_past before (marks ++ rest) owners_at i before_length (omega arith)
-    ∙ get_d_past marks rest (memos_at - owners_at) (i - owners_at) marks_length (omega arith)
-    ∙ get_or-replicate (run_bytes - memos_at) (i - owners_at - (memos_at - owners_at)) 0 0 (omega arith)
+cleared_rest i h = in_third owners_at (memos_at - owners_at) (run_bytes - memos_at) i h
 
 -- bytes written low first are worth the value
 pub value_of_bytes : (k n : ℕ) → n < 256 ^ k → value_of (bytes_of k n) ≡ n
@@ -92,8 +77,9 @@ bytes_length (suc k) n = ap suc (bytes_length k (n / 256))
 list_of : (f : ℕ → ℕ) (l : List ℕ) (i : ℕ) → ((k : ℕ) → k < length l → f (i + k) ≡ get_or l k 0) → list_from f (length l) i ≡ l
 list_of f [] i h = refl
 list_of f (x ∷ l) i h =
-    ap₂ (λ (a : ℕ) (m : List ℕ). a ∷ m) (ap f (sym (add-zero i)) ∙ h 0 (omega arith))
-    (list_of f l (suc i) (λ k a. ap f (suc-add i k ∙ sym (add-suc i k)) ∙ h (suc k) (omega arith)))
+    let e = h 0 in
+    let t = list_of f l (suc i) (λ k a. let u = h (suc k) in grind arith) in
+    grind arith
 
 -- a record written: its own bytes, and all else as it was
 module _ (i : ℕ) (q : Record) (d : List ℕ) (long : length d ≡ run_bytes) (hi : i < most_records) (few : length q.parts ≤ most_parts) where
@@ -114,12 +100,7 @@ module _ (i : ℕ) (q : Record) (d : List ℕ) (long : length d ≡ run_bytes) (
 
   in_parts : (k : ℕ) → get_or row (symbol_bytes + 1 + k) 0 ≡ get_or q.parts k 0
   unfolding row
-  in_parts k =
-      get_d_past (bytes_of symbol_bytes q.symbol) (length q.parts ∷ q.parts) symbol_bytes (symbol_bytes + 1 + k) (bytes_length symbol_bytes q.symbol) (omega arith)
-      ∙ ap (λ (n : ℕ). get_or (length q.parts ∷ q.parts) n 0) (one_more k)
-    where
-      one_more : (n : ℕ) → symbol_bytes + 1 + n - symbol_bytes ≡ suc n
-      one_more n = omega arith
+  in_parts k = let n = bytes_length symbol_bytes q.symbol in grind (arith, common_steps)
 
   pub fits : record_from i + length row ≤ length d
   fits = omega (arith, row_length, long)
@@ -159,8 +140,9 @@ module _ (i : ℕ) (q : Record) (d : List ℕ) (long : length d ≡ run_bytes) (
 
   written_part : (k : ℕ) → k < length q.parts → part_of (with_record i q d) i k ≡ get_or q.parts k 0
   written_part k h =
-      let e : record_from i + symbol_bytes + 1 + k ≡ record_from i + (symbol_bytes + 1 + k) = omega arith in
-      ap (byte_at (with_record i q d)) e ∙ written_in (symbol_bytes + 1 + k) (omega arith) ∙ in_parts k
+      let w = written_in (symbol_bytes + 1 + k) in
+      let p = in_parts k in
+      grind arith
 
   -- the record read back is the record written
   written_record : q.symbol < number_limit → record_of (with_record i q d) i ≡ q
@@ -176,15 +158,12 @@ module _ (i : ℕ) (q : Record) (d : List ℕ) (long : length d ≡ run_bytes) (
   written_other k hk ne c = λ j. record { symbol = ap value_of symbols j; parts = parts j }
     where
       outside : (m : ℕ) → m < record_bytes → byte_at (with_record i q d) (record_from k + m) ≡ byte_at d (record_from k + m)
-      outside m h =
-          ⊎_elim (λ (l : k < i). written_before (record_from k + m) (omega arith)) (λ (l : i ≤ k). written_after (record_from k + m) (omega arith)) (lt_or_le k i)
+      outside m h = let b = written_before (record_from k + m) in let a = written_after (record_from k + m) in grind arith
 
       symbols : get (record_from k) symbol_bytes (with_record i q d) ≡ get (record_from k) symbol_bytes d
       symbols =
           get_same (record_from k) symbol_bytes d (with_record i q d) (omega (arith, long)) (omega (arith, written_long, long))
-          (λ m a b.
-          let e : record_from k + (m - record_from k) ≡ m = omega arith in
-          subst (λ (n : ℕ). byte_at (with_record i q d) n ≡ byte_at d n) e (outside (m - record_from k) (omega arith)))
+          (λ m a b. let o = outside (m - record_from k) in grind arith)
 
       count : part_count_of (with_record i q d) k ≡ part_count_of d k
       count = outside symbol_bytes (omega arith)
@@ -193,9 +172,7 @@ module _ (i : ℕ) (q : Record) (d : List ℕ) (long : length d ≡ run_bytes) (
       parts =
           rw count
           (from_same (part_of d k) (part_of (with_record i q d) k) (part_count_of d k) 0
-          (λ m a b.
-          let e : record_from k + (symbol_bytes + 1 + m) ≡ record_from k + symbol_bytes + 1 + m = omega arith in
-          subst (λ (n : ℕ). byte_at (with_record i q d) n ≡ byte_at d n) e (outside (symbol_bytes + 1 + m) (omega arith))))
+          (λ m a b. let o = outside (symbol_bytes + 1 + m) in grind arith))
 
 -- what stands in the table while records are written: those before i, and 0 from there on
 pub record Filling (i : ℕ) (d : List ℕ) : Type 0 where
@@ -218,29 +195,24 @@ pub one_filled : (i : ℕ) (q : Record) (v : ℕ) (d : List ℕ) → RecordOk v 
 one_filled i q v d ok hi f =
     record {
       long = written_long i q d f.long hi ok.count ∙ f.long;
-      few = λ k h. few k h (ℕ_discrete k i);
-      tail = λ k m h a b. tail k m h a b (ℕ_discrete k i);
+      few = λ k h.
+          let c = written_count i q d f.long hi ok.count in
+          let b = before_here k symbol_bytes in
+          let g = f.few k in
+          grind arith;
+      tail = λ k m h a b.
+          let c = written_count i q d f.long hi ok.count in
+          let x = before_here k symbol_bytes in
+          let y = before_here k (symbol_bytes + 1 + m) in
+          let z = written_after i q d f.long hi ok.count (record_from i + symbol_bytes + 1 + m) in
+          let t = f.tail k m in
+          let g = f.free (record_from i + symbol_bytes + 1 + m) in
+          grind arith;
       free = λ j a b. written_after i q d f.long hi ok.count j (omega (arith, ok.count)) ∙ f.free j (omega arith) b;
     }
   where
     before_here : (k j : ℕ) → k < i → j < record_bytes → byte_at (with_record i q d) (record_from k + j) ≡ byte_at d (record_from k + j)
     before_here k j h l = written_before i q d f.long hi ok.count (record_from k + j) (omega arith)
-
-    few : (k : ℕ) → k < suc i → Dec (k ≡ i) → part_count_of (with_record i q d) k ≤ most_parts
-    few k h (yes e) = subst (λ (n : ℕ). part_count_of (with_record i q d) n ≤ most_parts) (sym e) (omega (arith, written_count i q d f.long hi ok.count, ok.count))
-    few k h (no e) = omega (arith, before_here k symbol_bytes (omega arith) (omega arith), f.few k (omega arith))
-
-    tail : (k m : ℕ) → k < suc i → part_count_of (with_record i q d) k ≤ m → m < most_parts → Dec (k ≡ i) → part_of (with_record i q d) k m ≡ 0
-    tail k m h a b (yes e) =
-        subst (λ (n : ℕ). part_count_of (with_record i q d) n ≤ m → part_of (with_record i q d) n m ≡ 0) (sym e)
-        (λ a'.
-        written_after i q d f.long hi ok.count (record_from i + symbol_bytes + 1 + m) (omega (arith, written_count i q d f.long hi ok.count))
-        ∙ f.free (record_from i + symbol_bytes + 1 + m) (omega arith) (omega arith))
-        a
-    tail k m h a b (no e) =
-        let e' : record_from k + (symbol_bytes + 1 + m) ≡ record_from k + symbol_bytes + 1 + m = omega arith in
-        subst (λ (n : ℕ). byte_at (with_record i q d) n ≡ byte_at d n) e' (before_here k (symbol_bytes + 1 + m) (omega arith) (omega arith))
-        ∙ f.tail k m (omega arith) (omega (arith, before_here k symbol_bytes (omega arith) (omega arith))) b
 
 pub records_filled : (qs : List Record) (i v : ℕ) (d : List ℕ) → All (RecordOk v) qs → i + length qs ≤ most_records → Filling i d
     → Filled i qs d (with_records i qs d)
@@ -359,7 +331,7 @@ module _ (f : File) (ok : FileOk f.table f.statements) where
   mark_255 i a b = late i a (omega arith) ∙ cleared_marks i a b
 
   rest_0 : (i : ℕ) → memos_at ≤ i → i < run_bytes → byte_at tabled i ≡ 0
-  rest_0 i a b = late i (omega arith) b ∙ cleared_rest i a b
+  rest_0 i a b = late i (omega arith) b ∙ cleared_rest i a
 
   low_0 : (i : ℕ) → i < cabinets_at → byte_at tabled i ≡ 0
   low_0 i h =
