@@ -10,7 +10,7 @@ ghost use Rattle.layout.specs.Changes.{store_of};
 ghost use Rattle.choices.specs.Choices.{less_in, choice_by_mark, choice_by_records, choice_of};
 ghost use Rattle.choices.specs.Given.{StatementIn};
 
-use layout::{Run, Store};
+use layout::{Mark, Run, Store};
 
 // A pending statement left = right at a cabinet.
 #[derive(Clone, Copy)]
@@ -53,11 +53,11 @@ fn by_mark(run: &Run, store: Store, v: usize, c: usize, x: usize, u: usize) -> C
     requires { (v ≤ most_unknowns) × (c < most_cabinets) × (x < v) }
     ensures { result ≡ choice_by_mark v run.now c x u (get_or store.marks x 0) }
 {
-    match store.marks[x] {
-        layout::NOTHING => Choice::Initiate,
-        layout::INITIATED => Choice::Waits,
-        _ if met(run, v, c, x, u) => Choice::Memo,
-        entry => Choice::Dereference(entry),
+    match store.mark(x) {
+        Mark::Nothing => Choice::Initiate,
+        Mark::Initiated => Choice::Waits,
+        Mark::Entry(_) if met(run, v, c, x, u) => Choice::Memo,
+        Mark::Entry(entry) => Choice::Dereference(entry),
     }
 }
 
@@ -81,12 +81,12 @@ pub fn choose(run: &Run, store: Store, s: Statement) -> Choice
     ensures { result ≡ choice_of (byte_at run.now unknowns_at) run.now s.cabinet s.left s.right }
 {
     let v = layout::unknowns(run);
-    let a = s.left as usize;
-    let b = s.right as usize;
+    let a = usize::from(s.left);
+    let b = usize::from(s.right);
     if less(v, a, b) {
         Choice::Interchange
     } else if less(v, b, a) {
-        by_mark(run, store, v, s.cabinet as usize, a, b)
+        by_mark(run, store, v, usize::from(s.cabinet), a, b)
     } else if a < v {
         Choice::Identify
     } else {

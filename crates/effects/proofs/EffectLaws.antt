@@ -1,77 +1,53 @@
 -- Laws of the rules' effects: how many items there are after each part of one, and the turns of the loops that append.
 use mathlib.Core.Path.{◌≡◌, refl, sym, ap, ◌∙◌}
 use mathlib.Core.Bool.{Bool, true, false}
-use mathlib.Core.List.{List}
-use Prim.Native.Nat.{ℕ, suc, ◌+◌, ◌-◌, ◌≤◌, ◌<◌}
-use native.Mathlib.Nat.{zero-add}
+use mathlib.Core.Logic.{◌⊎◌, inl, inr}
+use mathlib.Core.List.{List, [], ◌∷◌}
+use Prim.Native.Nat.{ℕ, zero, suc, ◌+◌, ◌-◌, ◌≤◌, ◌<◌}
 use native.Mathlib.Numerals.{add-one}
 use native.Mathlib.Omega.{arith}
 use lib.Dec.{ltb}
-use lib.ListN.{length, get_or, set, length-set}
+use lib.ListN.{length, get_or, set, take, drop}
 use lib.Seq.{get_or-set_other}
-use borrow.Author.Tests.{le-ltb, lt-ltb}
 use Rattle.base.specs.Choice.{pick}
 use Rattle.base.specs.Regions.{put, gone}
-use Rattle.base.proofs.Froms.{from_same, from_get_d}
+use Rattle.base.specs.Lists.{list_from}
+use Rattle.base.proofs.Froms.{from_length}
+use Rattle.base.proofs.Positions.{drop_at_element}
 use Rattle.base.proofs.Regions.{put_before, length_gone}
 use Rattle.paper.specs.Sizes.{most_parts, room}
 use Rattle.paper.specs.Rules.{part_statements, news_to}
 use Rattle.paper.specs.declared.Item.{Item}
 use Rattle.paper.specs.declared.Item.TheVariants.{Statement, News}
-use Rattle.layout.specs.Offsets.{item_bytes, unknowns_at, owners_at, run_bytes, memo_from, item_from}
-use Rattle.layout.specs.Fields.{byte_at, count_of, part_of, parts_from}
+use Rattle.layout.specs.Offsets.{item_bytes, owners_at, run_bytes, memo_from, item_from}
+use Rattle.layout.specs.Fields.{count_of, part_of, parts_from}
 use Rattle.layout.specs.Changes.{removed_at, appended, appended_all, with_owner, with_pair, with_clash}
-use Rattle.layout.specs.Given.{Reads, byte_limit}
-use Rattle.layout.proofs.Views.{length_count, count_is, appended_long, appended_count}
+use Rattle.layout.proofs.Views.{length_count, count_is, appended_count}
 use Rattle.effects.specs.Changes.{nothing, pair, applied}
-use Rattle.effects.specs.Given.{Fits, Room, elements_from}
-
--- the memo's gain, with V as read
-module _ (d e : List ℕ) (c x u v : ℕ) (ev : Reads (byte_at d unknowns_at) byte_limit v) where
-  pub no_pair : v ≤ u → d ≡ applied (pick (ltb u (byte_at d unknowns_at)) (pair c x u) nothing) d
-  no_pair h = rw (← ev.same, le-ltb u v h)
-
-  pub new_pair : u < v → e ≡ with_pair c x u d → e ≡ applied (pick (ltb u (byte_at d unknowns_at)) (pair c x u) nothing) d
-  new_pair h q = rw (← ev.same, lt-ltb u v h) q
+use Rattle.effects.specs.Given.{Fits}
 
 -- the length and the count after an item went
-module _ (d : List ℕ) (p n : ℕ) (f : Fits d p n) where
+module _ (d : List ℕ) (p n : ℕ) (l : length d ≡ run_bytes) (f : Fits d p n) where
   pub gap_long : length (gone item_bytes (item_from p) (item_from (count_of d)) d) ≡ length d
-  gap_long = length_gone item_bytes (item_from p) (item_from (count_of d)) d (omega (arith, f.place)) (omega (arith, f.long, f.count))
+  gap_long = length_gone item_bytes (item_from p) (item_from (count_of d)) d (omega (arith, f.place)) (omega (arith, l, f.count))
 
-  removed_long : length (removed_at p d) ≡ run_bytes
+  pub removed_long : length (removed_at p d) ≡ run_bytes
   unfolding removed_at
   removed_long =
-      length_count (count_of d - 1) (gone item_bytes (item_from p) (item_from (count_of d)) d) (omega (arith, gap_long, f.long)) ∙ gap_long ∙ f.long
+      length_count (count_of d - 1) (gone item_bytes (item_from p) (item_from (count_of d)) d) (omega (arith, gap_long, l)) ∙ gap_long ∙ l
 
   removed_count : count_of (removed_at p d) ≡ count_of d - 1
   unfolding removed_at
   removed_count =
-      count_is (count_of d - 1) (gone item_bytes (item_from p) (item_from (count_of d)) d) (omega (arith, gap_long, f.long)) (omega (arith, f.count))
+      count_is (count_of d - 1) (gone item_bytes (item_from p) (item_from (count_of d)) d) (omega (arith, gap_long, l)) (omega (arith, f.count))
 
--- room for one product, and for each of two
-module _ (d e : List ℕ) (p : ℕ) (q : e ≡ removed_at p d) where
-  pub one_fits : Fits d p 1 → count_of e < room
-  one_fits f = omega (arith, ap count_of q, removed_count d p 1 f, f.place, f.enough)
+  pub removed_room : (e : List ℕ) → e ≡ removed_at p d → count_of e + n ≤ room
+  removed_room e q = omega (arith, ap count_of q, removed_count, f.place, f.enough)
 
-  pub first_fits : Fits d p 2 → count_of e < room
-  first_fits f = omega (arith, ap count_of q, removed_count d p 2 f, f.place, f.enough)
-
-  pub second_fits : (j : Item) (e' : List ℕ) → e' ≡ appended j e → Fits d p 2 → count_of e' < room
-  second_fits j e' o f =
-      omega (
-        arith,
-        ap count_of q,
-        ap count_of o,
-        removed_count d p 2 f,
-        appended_count e j (ap length q ∙ removed_long d p 2 f) (first_fits f),
-        f.place,
-        f.enough,
-      )
-
-  pub removed_room : (n : ℕ) → Fits d p n → Room e n
-  removed_room n f =
-      record { long = ap length q ∙ removed_long d p n f; enough = omega (arith, ap count_of q, removed_count d p n f, f.place, f.enough) }
+-- one item of n more, of which there were k
+module _ (d e : List ℕ) (j : Item) (k n : ℕ) (l : length d ≡ run_bytes) (q : e ≡ appended j d) where
+  pub room_less : count_of d + (n - k) ≤ room → k < n → count_of e + (n - (k + 1)) ≤ room
+  room_less r h = omega (arith, ap count_of q, appended_count d j l (omega arith))
 
 -- a byte that is set, or a region that is put, elsewhere leaves the count
 pub set_count : (d : List ℕ) (at v : ℕ) → 8 ≤ at → count_of (set d at v) ≡ count_of d
@@ -94,98 +70,74 @@ pub put_count : (at : ℕ) (vs d : List ℕ) → 8 ≤ at → at + length vs ≤
 unfolding count_of
 put_count at vs d h g = omega (arith, put_before at vs d g 6 (omega arith), put_before at vs d g 7 (omega arith))
 
--- the same count and length are as fitting
-pub as_fitting : (d e : List ℕ) (p n : ℕ) → count_of e ≡ count_of d → length e ≡ length d → Fits d p n → Fits e p n
-as_fitting d e p n h l f =
-    record {
-      long = l ∙ f.long;
-      count = omega (arith, f.count);
-      place = omega (arith, f.place);
-      enough = omega (arith, f.enough);
-    }
+-- what leaves the count leaves an item at its place
+pub as_fitting : (d e : List ℕ) (p n : ℕ) → count_of e ≡ count_of d → Fits d p n → Fits e p n
+as_fitting d e p n h f = record { count = omega (arith, f.count); place = omega (arith, f.place); enough = omega (arith, f.enough) }
 
--- what a rule's change leaves fits as before
+-- so does a rule's change
 module _ (d e : List ℕ) (p n : ℕ) where
   pub pair_fits : (c x u v : ℕ) → e ≡ applied (pick (ltb u v) (pair c x u) nothing) d → Fits d p n → Fits e p n
   unfolding with_pair
   pair_fits c x u v q f = go (ltb u v) q
     where
       go : (b : Bool) → e ≡ applied (pick b (pair c x u) nothing) d → Fits e p n
-      go true o = as_fitting d e p n (ap count_of o ∙ set_count d (memo_from c x u) 1 (omega arith)) (ap length o ∙ length-set d (memo_from c x u) 1) f
-      go false o = as_fitting d e p n (ap count_of o) (ap length o) f
+      go true o = as_fitting d e p n (ap count_of o ∙ set_count d (memo_from c x u) 1 (omega arith)) f
+      go false o = as_fitting d e p n (ap count_of o) f
 
   pub clash_fits : (c : ℕ) → e ≡ with_clash c d → Fits d p n → Fits e p n
-  unfolding with_clash
-  clash_fits c q f =
-      as_fitting d e p n (ap count_of q ∙ clash_count d c) (ap length q ∙ length-set (set d 0 1) 1 c ∙ length-set d 0 1) f
+  clash_fits c q f = as_fitting d e p n (ap count_of q ∙ clash_count d c) f
 
-  owner_fits : (x u : ℕ) → e ≡ with_owner x u d → Fits d p n → Fits e p n
+  pub owner_fits : (x u : ℕ) → e ≡ with_owner x u d → Fits d p n → Fits e p n
   unfolding with_owner
-  owner_fits x u q f = as_fitting d e p n (ap count_of q ∙ set_count d (owners_at + x) u (omega arith)) (ap length q ∙ length-set d (owners_at + x) u) f
+  owner_fits x u q f = as_fitting d e p n (ap count_of q ∙ set_count d (owners_at + x) u (omega arith)) f
 
-module _ (d e : List ℕ) (p n x u : ℕ) (q : e ≡ with_owner x u d) (f : Fits d p n) where
-  pub owner_none_fits : Fits e p 0
-  owner_none_fits =
-      let g = owner_fits d e p n x u q f in
-      record { long = g.long; count = g.count; place = g.place; enough = omega (arith, g.count) }
+-- items that are appended one after the other: k of them are there
+pub items_more : (js : List Item) (j : Item) (k : ℕ) (d₀ d e : List ℕ) → appended_all js d₀ ≡ appended_all (drop k js) d
+    → e ≡ appended (get_or js k j) d → k < length js → appended_all js d₀ ≡ appended_all (drop (k + 1) js) e
+items_more js j k d₀ d e inv q h = inv ∙ rw (drop_at_element js k j h, q) refl
 
-  pub owner_room : (e' : List ℕ) → e' ≡ removed_at p e → Room e' n
-  owner_room e' o = removed_room e e' p o n (owner_fits d e p n x u q f)
+-- the statements of two records' parts: those of the first parts that are left come next
+module _ (c p q : ℕ) (ps qs ps' qs' d e : List ℕ) (left : ps ≡ p ∷ ps') (right : qs ≡ q ∷ qs') (l : length d ≡ run_bytes) (o : e ≡ appended (Statement c p q) d) where
+  pub parts_room : count_of d + length ps ≤ room → count_of e + length ps' ≤ room
+  parts_room r = omega (arith, ap length left, ap count_of o, appended_count d (Statement c p q) l (omega (arith, ap length left)))
 
-pub room_start : (d : List ℕ) (n : ℕ) → Room d n → Room d (n - 0)
-room_start d n r = record { long = r.long; enough = omega (arith, r.enough) }
+  pub parts_more : (all : List ℕ) → all ≡ appended_all (part_statements c ps qs) d → all ≡ appended_all (part_statements c ps' qs') e
+  parts_more all inv = inv ∙ rw (left, right, o) refl
 
--- one item more takes one of the room
-pub room_below : (d : List ℕ) (k n : ℕ) → Room d (n - k) → k < n → count_of d < room
-room_below d k n r h = omega (arith, r.enough)
-
-pub room_less : (d e : List ℕ) (j : Item) (k n : ℕ) → e ≡ appended j d → Room d (n - k) → k < n → Room e (n - (k + 1))
-room_less d e j k n q r h =
-    let g : count_of d < room = room_below d k n r h in
-    record {
-      long = ap length q ∙ appended_long d j r.long g;
-      enough = omega (arith, ap count_of q, appended_count d j r.long g, r.enough);
-    }
-
--- the statements of two records' parts: k of n are appended
-module _ (c n : ℕ) (ps qs d₀ : List ℕ) where
-  pub parts_start : appended_all (part_statements c (elements_from ps n 0) (elements_from qs n 0)) d₀
-      ≡ appended_all (part_statements c (elements_from ps (n - 0) 0) (elements_from qs (n - 0) 0)) d₀
-  parts_start = let a : n - 0 ≡ n = omega arith in rw a refl
-
-  module _ (k : ℕ) (d : List ℕ)
-      (inv : appended_all (part_statements c (elements_from ps n 0) (elements_from qs n 0)) d₀ ≡ appended_all (part_statements c (elements_from ps (n - k) k) (elements_from qs (n - k) k)) d) where
-    pub parts_more : (e : List ℕ) → e ≡ appended (Statement c (get_or ps k 0) (get_or qs k 0)) d → k < n
-        → appended_all (part_statements c (elements_from ps n 0) (elements_from qs n 0)) d₀
-        ≡ appended_all (part_statements c (elements_from ps (n - (k + 1)) (k + 1)) (elements_from qs (n - (k + 1)) (k + 1))) e
-    parts_more e q h =
-        let a : n - k ≡ suc (n - (k + 1)) = omega arith in
-        inv ∙ rw (a, q, add-one) refl
-
-    pub parts_over : n ≤ k → d ≡ appended_all (part_statements c (elements_from ps n 0) (elements_from qs n 0)) d₀
-    parts_over h = let a : n - k ≡ 0 = omega arith in sym (inv ∙ rw a refl)
+-- where there are none left of one record, all are there
+pub parts_over : (c : ℕ) (ps qs d all : List ℕ) → (length ps ≡ 0) ⊎ (length qs ≡ 0) → all ≡ appended_all (part_statements c ps qs) d → d ≡ all
+parts_over c [] qs d all h inv = sym inv
+parts_over c (p ∷ ps) [] d all h inv = sym inv
+parts_over c (p ∷ ps) (q ∷ qs) d all (inl h) inv = absurd (let z : ⊥ = omega arith in z)
+parts_over c (p ∷ ps) (q ∷ qs) d all (inr h) inv = absurd (let z : ⊥ = omega arith in z)
 
 -- the first n part places of a record are its first n parts
-first_parts : (d : List ℕ) (i n : ℕ) → n ≤ most_parts → elements_from (parts_from d i most_parts 0) n 0 ≡ parts_from d i n 0
-first_parts d i n h =
-    from_same (part_of d i) (λ k. get_or (parts_from d i most_parts 0) k 0) n 0
-    (λ k a b. from_get_d (part_of d i) most_parts 0 k 0 (omega arith) ∙ ap (part_of d i) (zero-add k))
+take_from : (f : ℕ → ℕ) (n m i : ℕ) → n ≤ m → take n (list_from f m i) ≡ list_from f n i
+take_from f zero m i h = refl
+take_from f (suc n) zero i h = absurd (let z : ⊥ = omega arith in z)
+take_from f (suc n) (suc m) i h = ap (λ (l : List ℕ). f i ∷ l) (take_from f n m (suc i) (omega arith))
+
+module _ (d : List ℕ) (n : ℕ) (few : n ≤ most_parts) (i : ℕ) (ps : List ℕ) (e : ps ≡ parts_from d i most_parts 0) where
+  parts_long : length (take n ps) ≡ n
+  parts_long = ap (λ (l : List ℕ). length (take n l)) e ∙ ap length (take_from (part_of d i) n most_parts 0 few) ∙ from_length (part_of d i) n 0
+
+  pub parts_fit : (p : ℕ) (d' : List ℕ) → length d ≡ run_bytes → Fits d p n → d' ≡ removed_at p d → count_of d' + length (take n ps) ≤ room
+  parts_fit p d' l f q = omega (arith, parts_long, removed_room d p n l f d' q)
+
+pub parts_alike : (d : List ℕ) (n i k : ℕ) (ps qs : List ℕ) → n ≤ most_parts → ps ≡ parts_from d i most_parts 0 → qs ≡ parts_from d k most_parts 0
+    → length (take n qs) ≡ length (take n ps)
+parts_alike d n i k ps qs h e f = parts_long d n h k qs f ∙ sym (parts_long d n h i ps e)
 
 pub decomposed : (d e e' : List ℕ) (p c i k n : ℕ) (ps qs : List ℕ) → n ≤ most_parts → ps ≡ parts_from d i most_parts 0 → qs ≡ parts_from d k most_parts 0
-    → e ≡ removed_at p d → e' ≡ appended_all (part_statements c (elements_from ps n 0) (elements_from qs n 0)) e
+    → e ≡ removed_at p d → e' ≡ appended_all (part_statements c (take n ps) (take n qs)) e
     → e' ≡ appended_all (part_statements c (parts_from d i n 0) (parts_from d k n 0)) (removed_at p d)
-decomposed d e e' p c i k n ps qs h ep eq er ea = ea ∙ rw (er, ep, eq, first_parts d i n h, first_parts d k n h) refl
+decomposed d e e' p c i k n ps qs h ep eq er ea =
+    ea ∙ rw (er, ep, eq, take_from (part_of d i) n most_parts 0 h, take_from (part_of d k) n most_parts 0 h) refl
 
 -- news to s cabinets: c of them have theirs
 module _ (s x u : ℕ) (d₀ : List ℕ) where
-  pub news_start : appended_all (news_to 0 s x u) d₀ ≡ appended_all (news_to 0 (s - 0) x u) d₀
-  news_start = let a : s - 0 ≡ s = omega arith in rw a refl
-
   module _ (c : ℕ) (d : List ℕ) (inv : appended_all (news_to 0 s x u) d₀ ≡ appended_all (news_to c (s - c) x u) d) where
     pub news_more : (e : List ℕ) → e ≡ appended (News c x u) d → c < s → appended_all (news_to 0 s x u) d₀ ≡ appended_all (news_to (c + 1) (s - (c + 1)) x u) e
     news_more e q h =
         let a : s - c ≡ suc (s - (c + 1)) = omega arith in
         inv ∙ rw (a, q, add-one) refl
-
-    pub news_over : s ≤ c → d ≡ appended_all (news_to 0 s x u) d₀
-    news_over h = let a : s - c ≡ 0 = omega arith in sym (inv ∙ rw a refl)

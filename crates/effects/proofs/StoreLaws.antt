@@ -16,8 +16,8 @@ use Rattle.layout.specs.Fields.{bytes_of, count_of}
 use Rattle.layout.specs.Changes.{with_count, bytes_of_item, removed_at, appended, appended_all, store_of, with_store, with_pair, with_clash}
 use Rattle.layout.proofs.Views.{item_long, appended_long, appended_count}
 use Rattle.effects.specs.Changes.{Change, nothing, mark, owner, pair, clash, applied, of_store, of_run}
-use Rattle.effects.specs.Given.{Fits, Room}
-use Rattle.effects.proofs.EffectLaws.{gap_long, put_count, set_count, clash_count, as_fitting, removed_room}
+use Rattle.effects.specs.Given.{Fits}
+use Rattle.effects.proofs.EffectLaws.{gap_long, removed_long, put_count, set_count, clash_count, as_fitting, removed_room}
 
 -- a store put after items went and came is one put before
 module _ (c : ℕ) (ms : List ℕ) (hc : c < most_cabinets) (hm : length ms ≡ most_unknowns) where
@@ -29,17 +29,17 @@ module _ (c : ℕ) (ms : List ℕ) (hc : c < most_cabinets) (hm : length ms ≡ 
   unfolding with_store with_count
   store_count n d l = sym (put_put count_at (bytes_of 2 n) (store_from c) d (omega arith) ms (omega arith))
 
-  store_closed : (d : List ℕ) (p n : ℕ) → Fits d p n
+  store_closed : (d : List ℕ) (p n : ℕ) → length d ≡ run_bytes → Fits d p n
       → with_store c ms (gone item_bytes (item_from p) (item_from (count_of d)) d) ≡ gone item_bytes (item_from p) (item_from (count_of d)) (with_store c ms d)
   unfolding with_store
-  store_closed d p n f =
-      put_gone (store_from c) ms item_bytes (item_from p) (item_from (count_of d)) d (omega arith) (omega (arith, f.place)) (omega (arith, f.long, f.count))
+  store_closed d p n l f =
+      put_gone (store_from c) ms item_bytes (item_from p) (item_from (count_of d)) d (omega arith) (omega (arith, f.place)) (omega (arith, l, f.count))
 
-  store_removed : (d : List ℕ) (p n : ℕ) → Fits d p n → with_store c ms (removed_at p d) ≡ removed_at p (with_store c ms d)
+  store_removed : (d : List ℕ) (p n : ℕ) → length d ≡ run_bytes → Fits d p n → with_store c ms (removed_at p d) ≡ removed_at p (with_store c ms d)
   unfolding removed_at
-  store_removed d p n f =
-      store_count (count_of d - 1) (gone item_bytes (item_from p) (item_from (count_of d)) d) (gap_long d p n f ∙ f.long)
-      ∙ rw (count_stays d f.long) (ap (with_count (count_of d - 1)) (store_closed d p n f))
+  store_removed d p n l f =
+      store_count (count_of d - 1) (gone item_bytes (item_from p) (item_from (count_of d)) d) (gap_long d p n l f ∙ l)
+      ∙ rw (count_stays d l) (ap (with_count (count_of d - 1)) (store_closed d p n l f))
 
   store_written : (d : List ℕ) (j : Item) → length d ≡ run_bytes → count_of d < room
       → with_store c ms (put (item_from (count_of d)) (bytes_of_item j) d) ≡ put (item_from (count_of d)) (bytes_of_item j) (with_store c ms d)
@@ -54,18 +54,18 @@ module _ (c : ℕ) (ms : List ℕ) (hc : c < most_cabinets) (hm : length ms ≡ 
       (length_put (item_from (count_of d)) (bytes_of_item j) d (omega (arith, item_long j)) ∙ l)
       ∙ rw (count_stays d l) (ap (with_count (count_of d + 1)) (store_written d j l g))
 
-  store_all : (js : List Item) (d : List ℕ) → Room d (length js) → with_store c ms (appended_all js d) ≡ appended_all js (with_store c ms d)
-  store_all [] d r = refl
-  store_all (j ∷ js) d r =
-      let g : count_of d < room = omega (arith, r.enough) in
-      let more : Room (appended j d) (length js) =
-      record { long = appended_long d j r.long g; enough = omega (arith, appended_count d j r.long g, r.enough) } in
-      store_all js (appended j d) more ∙ ap (appended_all js) (store_appended d j r.long g)
+  store_all : (js : List Item) (d : List ℕ) → length d ≡ run_bytes → count_of d + length js ≤ room
+      → with_store c ms (appended_all js d) ≡ appended_all js (with_store c ms d)
+  store_all [] d l r = refl
+  store_all (j ∷ js) d l r =
+      let g : count_of d < room = omega arith in
+      store_all js (appended j d) (appended_long d j l g) (omega (arith, appended_count d j l g)) ∙ ap (appended_all js) (store_appended d j l g)
 
-  store_items : (d : List ℕ) (p : ℕ) (js : List Item) → Fits d p (length js)
+  store_items : (d : List ℕ) (p : ℕ) (js : List Item) → length d ≡ run_bytes → Fits d p (length js)
       → with_store c ms (appended_all js (removed_at p d)) ≡ appended_all js (removed_at p (with_store c ms d))
-  store_items d p js f =
-      store_all js (removed_at p d) (removed_room d (removed_at p d) p refl (length js) f) ∙ ap (appended_all js) (store_removed d p (length js) f)
+  store_items d p js l f =
+      store_all js (removed_at p d) (removed_long d p (length js) l f) (removed_room d p (length js) l f (removed_at p d) refl)
+      ∙ ap (appended_all js) (store_removed d p (length js) l f)
 
 -- a change that a local rule makes at cabinet c
 abbrev pub Local : ℕ → Change → Type 0
@@ -91,25 +91,24 @@ module _ (c : ℕ) (hc : c < most_cabinets) (d : List ℕ) (l : length d ≡ run
       get_same (store_from c) most_unknowns d (set d at v) (omega arith) (omega (arith, length-set d at v))
       (λ j a b. get_or-set_other d at j v 0 (λ e. ⊎_elim (λ h. let z : ⊥ = omega arith in z) (λ h. let z : ⊥ = omega arith in z) apart))
 
-module _ (c : ℕ) (hc : c < most_cabinets) (d : List ℕ) (p : ℕ) (js : List Item) (f : Fits d p (length js)) where
+module _ (c : ℕ) (hc : c < most_cabinets) (d : List ℕ) (l : length d ≡ run_bytes) (p : ℕ) (js : List Item) (f : Fits d p (length js)) where
   -- what was changed elsewhere has the store that was taken out
-  back_elsewhere : (e : List ℕ) → Fits e p (length js) → store_of c e ≡ store_of c d
+  back_elsewhere : (e : List ℕ) → length e ≡ length d → count_of e ≡ count_of d → store_of c e ≡ store_of c d
       → with_store c (store_of c d) (appended_all js (removed_at p e)) ≡ appended_all js (removed_at p e)
-  back_elsewhere e g q =
-      store_items c (store_of c d) hc (store_long c hc d f.long) e p js g
-      ∙ ap (λ (b : List ℕ). appended_all js (removed_at p b)) (ap (λ (s : List ℕ). with_store c s e) (sym q) ∙ store_back c hc e g.long)
+  back_elsewhere e k n q =
+      store_items c (store_of c d) hc (store_long c hc d l) e p js (k ∙ l) (as_fitting d e p (length js) n f)
+      ∙ ap (λ (b : List ℕ). appended_all js (removed_at p b)) (ap (λ (s : List ℕ). with_store c s e) (sym q) ∙ store_back c hc e (k ∙ l))
 
   pub put_back : (ch : Change) → Local c ch → with_store c (of_store ch (store_of c d)) (appended_all js (removed_at p (of_run ch d))) ≡ appended_all js (removed_at p (applied ch d))
   unfolding with_pair with_clash
-  put_back nothing h = back_elsewhere d f refl
-  put_back (mark k x m) h =
-      rw h (store_items c (set (store_of c d) x m) hc (length-set (store_of c d) x m ∙ store_long c hc d f.long) d p js f)
+  put_back nothing h = back_elsewhere d refl refl refl
+  put_back (mark k x m) h = rw h (store_items c (set (store_of c d) x m) hc (length-set (store_of c d) x m ∙ store_long c hc d l) d p js l f)
   put_back (owner x u) h = absurd h
   put_back (pair k x y) h =
-      back_elsewhere (set d (memo_from k x y) 1) (as_fitting d (set d (memo_from k x y) 1) p (length js) (set_count d (memo_from k x y) 1 (omega arith)) (length-set d (memo_from k x y) 1) f)
-      (set_store c hc d f.long (memo_from k x y) 1 (inr (omega arith)))
+      back_elsewhere (set d (memo_from k x y) 1) (length-set d (memo_from k x y) 1) (set_count d (memo_from k x y) 1 (omega arith))
+      (set_store c hc d l (memo_from k x y) 1 (inr (omega arith)))
   put_back (clash k) h =
       let e : List ℕ = set d clash_at 1 in
-      let l : length (set d clash_at 1) ≡ length d = length-set d clash_at 1 in
-      back_elsewhere (set e clash_cabinet_at k) (as_fitting d (set e clash_cabinet_at k) p (length js) (clash_count d k) (length-set e clash_cabinet_at k ∙ l) f)
-      (set_store c hc e (l ∙ f.long) clash_cabinet_at k (inl (omega arith)) ∙ set_store c hc d f.long clash_at 1 (inl (omega arith)))
+      let m : length (set d clash_at 1) ≡ length d = length-set d clash_at 1 in
+      back_elsewhere (set e clash_cabinet_at k) (length-set e clash_cabinet_at k ∙ m) (clash_count d k)
+      (set_store c hc e (m ∙ l) clash_cabinet_at k (inl (omega arith)) ∙ set_store c hc d l clash_at 1 (inl (omega arith)))

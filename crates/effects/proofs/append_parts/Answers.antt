@@ -1,18 +1,23 @@
--- `append_parts`: after k turns the statements of the first k parts are there, and the measure is what is left of n.
+-- `append_parts`: after some turns the statements of the parts that are left make all of them, and there is room for these.
+use mathlib.Core.Logic.{inl, inr}
 use borrow.Author.Rules.{rules}
-use mathlib.Core.Path.{refl}
-use native.Mathlib.Omega.{arith}
-use Rattle.effects.proofs.EffectLaws.{parts_start, parts_more, parts_over, room_start, room_below, room_less}
+use Rattle.effects.proofs.EffectLaws.{parts_room, parts_more, parts_over}
 use Rattle.effects.proofs.append_parts.Goals as goal
 
-pub loop-k-init : goal.loop-k-init
-loop-k-init c = (omega arith, refl, search room_start, search parts_start)
-
-pub append_item-requires : goal.append_item-requires
-append_item-requires c = (search rules, search room_below)
-
-pub loop-k-preserved : goal.loop-k-preserved
-loop-k-preserved c = (omega arith, omega arith, search room_less, search parts_more)
+pub loop-left-preserved : goal.loop-left-preserved
+loop-left-preserved c =
+    let s = c.in-Some.ensures.steps in
+    let i = c.loop-left.invariant in
+    record {
+      long = search rules;
+      left = parts_room _ _ _ _ _ _ _ _ _ s.0 s.1 i.long c.append_item.ensures i.left;
+      onward = parts_more _ _ _ _ _ _ _ _ _ s.0 s.1 i.long c.append_item.ensures _ i.onward;
+    }
 
 pub returns : goal.returns
-returns c = search parts_over
+returns c =
+    let o = c.loop-left.invariant.onward in
+    elim c.in-None.ensures.steps [
+      | inl h ↦ parts_over _ _ _ _ _ (inl h.1.0) o
+      | inr h ↦ parts_over _ _ _ _ _ (inr h.1.0) o
+    ]

@@ -2,8 +2,5 @@
 use Rattle.effects.proofs.EffectLaws.{pair_fits}
 use Rattle.effects.proofs.dereference.Goals as goal
 
-pub replace_by_one-requires : goal.replace_by_one-requires
-replace_by_one-requires c = search pair_fits
-
-pub returns : goal.returns
-returns c = cc
+pub replace-requires : goal.replace-requires
+replace-requires c = search pair_fits
