@@ -1,67 +1,87 @@
 -- Laws of the scan for a ready place: the places from the drawn one on, then, going round, all of them.
-use Rattle.std.proofs.Common.{◌≡◌, ℕ, zero, suc, ◌+◌, ◌-◌, ◌<◌, ◌≤◌, Bool, true, false, cond, ltb, List, ◌++◌, length, get_or, sym, refl, ap, ◌∙◌, ap₂, subst, add-one, arith, le-ltb, lt-ltb, Option, None, Some}
-use borrow.Author.Tests.{ltb-false}
-use Rattle.std.specs.List.{range_with_len, find, All}
-use Rattle.std.specs.Option.{option_map, option_or, unwrap_or}
-use Rattle.std.proofs.lemmas.List.Elements.{All-append, All-get_or, All-nil, All-cons}
-use Rattle.std.proofs.lemmas.List.Folds.{find-append}
-use Rattle.std.proofs.lemmas.Iterator.Adapters.{option_map_id}
+use Rattle.std.proofs.Common.{◌≡◌, ℕ, zero, suc, ◌+◌, ◌-◌, ◌<◌, ◌≤◌, Bool, true, false, not, ltb, List, sym, refl, ap, ◌∙◌, add-one, arith, le-ltb, lt-ltb}
 use Rattle.base.specs.Choice.{pick, first_of}
-use Rattle.base.proofs.Firsts.{first_within}
 use Rattle.layout.specs.Fields.{count_of}
+use Rattle.rules.specs.Given.{waits_bytes}
 use Rattle.drawing.specs.Draws.{ready_at, ready_from}
 
--- the places that the scan goes over: of n, those from i on, and then all
-abbrev pub around : ℕ → ℕ → List ℕ
-around n i = range_with_len i (n - i) ++ range_with_len 0 n
+-- the first of the numbers from i up to n that passes: one of them looked at
+module _ (f : ℕ → Bool) (n i : ℕ) where
+  first_on : i < n → f i ≡ false → first_of f (n - i) i ≡ first_of f (n - (i + 1)) (i + 1)
+  first_on h e =
+      let s : n - i ≡ suc (n - (i + 1)) = omega arith in
+      ap (λ (k : ℕ). first_of f k i) s ∙ rw (e, first_of, add-one) refl
 
--- each of them is one of the n
-module _ (n : ℕ) where
-  abbrev Below : ℕ → Type 0
-  Below x = x < n
+  first_here : i < n → f i ≡ true → first_of f (n - i) i ≡ i
+  first_here h e =
+      let s : n - i ≡ suc (n - (i + 1)) = omega arith in
+      ap (λ (k : ℕ). first_of f k i) s ∙ rw (e, first_of) refl
 
-  range_below : (k i : ℕ) → i + k ≤ n → All Below (range_with_len i k)
-  range_below zero i h = All-nil Below
-  range_below (suc k) i h = All-cons Below i (range_with_len (i + 1) k) (omega arith) (range_below k (i + 1) (omega arith))
+  first_none : n ≤ i → first_of f (n - i) i ≡ i
+  first_none h =
+      let s : n - i ≡ 0 = omega arith in
+      ap (λ (k : ℕ). first_of f k i) s
 
-  pub around_below : (i : ℕ) → i ≤ n → (x k : ℕ) → k < length (around n i) → x ≡ get_or (around n i) k x → x < n
-  around_below i h x k l e =
-      subst Below (sym e)
-      (All-get_or Below (around n i) k x l
-      (All-append Below (range_with_len i (n - i)) (range_with_len 0 n) (range_below (n - i) i (omega arith)) (range_below n 0 (omega arith))))
+-- the place to take from a place on: from the next on, from there, and from the first on
+module _ (d : List ℕ) (i : ℕ) where
+  ready_on : first_of (ready_at d) (count_of d - i) i ≡ first_of (ready_at d) (count_of d - (i + 1)) (i + 1) → ready_from d (i + 1) ≡ ready_from d i
+  unfolding ready_from
+  ready_on e = ap (λ (a : ℕ). pick (ltb a (count_of d)) a (first_of (ready_at d) (count_of d) 0)) (sym e)
 
--- what is found in a range is the first that passes, if it is in the range
-module _ (f : ℕ → Bool) where
-  find_range : (k y : ℕ) → find f (range_with_len y k) ≡ cond (ltb (first_of f k y) (y + k)) (Some (first_of f k y)) None
-  find_range zero y = rw (le-ltb y (y + 0) (omega arith)) refl
-  find_range (suc k) y = go (f y) refl (find_range k (y + 1))
-    where
-      go : (b : Bool) → f y ≡ b → find f (range_with_len (y + 1) k) ≡ cond (ltb (first_of f k (y + 1)) (y + 1 + k)) (Some (first_of f k (y + 1))) None
-          → find f (range_with_len y (suc k)) ≡ cond (ltb (first_of f (suc k) y) (y + suc k)) (Some (first_of f (suc k) y)) None
-      go true e ih = rw (e, first_of, lt-ltb y (y + suc k) (omega arith)) refl
-      go false e ih =
-          let s : y + 1 + k ≡ y + suc k = omega arith in
-          rw (e, first_of) (ih ∙ ap₂ (λ (a b : ℕ). cond (ltb (first_of f k a) b) (Some (first_of f k a)) None) (add-one y) s)
+  ready_here : i < count_of d → first_of (ready_at d) (count_of d - i) i ≡ i → ready_from d i ≡ i
+  unfolding ready_from
+  ready_here h e =
+      ap (λ (a : ℕ). pick (ltb a (count_of d)) a (first_of (ready_at d) (count_of d) 0)) e
+      ∙ ap (λ (b : Bool). pick b i (first_of (ready_at d) (count_of d) 0)) (lt-ltb i (count_of d) h)
 
-  pub find_around : (n i : ℕ) → i ≤ n → unwrap_or (find f (around n i)) n ≡ pick (ltb (first_of f (n - i) i) n) (first_of f (n - i) i) (first_of f n 0)
-  find_around n i h =
-      let s : i + (n - i) ≡ n = omega arith in
-      let z : 0 + n ≡ n = omega arith in
-      ap (λ (r : Option ℕ). unwrap_or r n) (find-append f (range_with_len i (n - i)) (range_with_len 0 n)
-      ∙ ap₂ option_or (find_range (n - i) i ∙ ap (λ (m : ℕ). cond (ltb (first_of f (n - i) i) m) (Some (first_of f (n - i) i)) None) s)
-      (find_range n 0 ∙ ap (λ (m : ℕ). cond (ltb (first_of f n 0) m) (Some (first_of f n 0)) None) z))
-      ∙ go (ltb (first_of f (n - i) i) n) (ltb (first_of f n 0) n) refl
-    where
-      go : (p q : Bool) → ltb (first_of f n 0) n ≡ q
-          → unwrap_or (option_or (cond p (Some (first_of f (n - i) i)) None) (cond q (Some (first_of f n 0)) None)) n ≡ pick p (first_of f (n - i) i) (first_of f n 0)
-      go true q e = refl
-      go false true e = refl
-      go false false e = let l = (first_within f n 0).1 in let g = ltb-false (first_of f n 0) n e in omega arith
+  ready_round : count_of d ≤ i → ready_from d i ≡ first_of (ready_at d) (count_of d - 0) 0
+  unfolding ready_from
+  ready_round h =
+      let z : count_of d ≡ count_of d - 0 = omega arith in
+      ap (λ (a : ℕ). pick (ltb a (count_of d)) a (first_of (ready_at d) (count_of d) 0)) (first_none (ready_at d) (count_of d) i h)
+      ∙ ap (λ (b : Bool). pick b i (first_of (ready_at d) (count_of d) 0)) (le-ltb i (count_of d) h)
+      ∙ ap (λ (n : ℕ). first_of (ready_at d) n 0) z
 
--- the place that the scan gives
-pub ready_found : (d : List ℕ) (n i p : ℕ) (r : Option ℕ) → n ≡ count_of d → i ≤ n → p ≡ unwrap_or r n → option_map (λ (x : ℕ). x) r ≡ find (ready_at d) (around n i)
-    → p ≡ ready_from d i
-unfolding ready_from
-ready_found d n i p r en h ep er =
-    ep ∙ ap (λ (o : Option ℕ). unwrap_or o n) (sym (option_map_id r) ∙ er) ∙ find_around (ready_at d) n i h
-    ∙ ap (λ (m : ℕ). pick (ltb (first_of (ready_at d) (m - i) i) m) (first_of (ready_at d) (m - i) i) (first_of (ready_at d) m 0)) en
+-- what the scan finds from a place on, in round 0 and in round 1
+abbrev scanned : List ℕ → ℕ → ℕ → ℕ
+scanned d zero i = ready_from d i
+scanned d (suc k) i = first_of (ready_at d) (count_of d - i) i
+
+-- what is still to be found from a place on is what was to be found from `from` on
+pub record Scan (d : List ℕ) (from round place : ℕ) : Type 0 where
+  pub within : place ≤ count_of d
+  pub same : scanned d round place ≡ ready_from d from
+
+pub scan_start : (d : List ℕ) (from : ℕ) → from ≤ count_of d → Scan d from 0 from
+scan_start d from h = record { within = h; same = refl }
+
+module _ (d : List ℕ) (from round place : ℕ) (h : Scan d from round place) (n : ℕ) (c : n ≡ count_of d) where
+  module _ (l : place < n) (w : Bool) (e : w ≡ waits_bytes d place) where
+    ready : ready_at d place ≡ not w
+    unfolding ready_at
+    ready = ap not (sym e)
+
+    pub scan_waits : not w ≡ false → Scan d from round (place + 1)
+    scan_waits t = record { within = omega arith; same = go round ∙ h.same }
+      where
+        on : first_of (ready_at d) (count_of d - place) place ≡ first_of (ready_at d) (count_of d - (place + 1)) (place + 1)
+        on = first_on (ready_at d) (count_of d) place (omega arith) (ready ∙ t)
+
+        go : (r : ℕ) → scanned d r (place + 1) ≡ scanned d r place
+        go zero = ready_on d place on
+        go (suc k) = sym on
+
+    pub scan_ready : not w ≡ true → place ≡ ready_from d from
+    scan_ready t = sym (go round) ∙ h.same
+      where
+        here : first_of (ready_at d) (count_of d - place) place ≡ place
+        here = first_here (ready_at d) (count_of d) place (omega arith) (ready ∙ t)
+
+        go : (r : ℕ) → scanned d r place ≡ place
+        go zero = ready_here d place (omega arith) here
+        go (suc k) = here
+
+  module _ (l : n ≤ place) where
+    pub scan_round : round ≡ 0 → Scan d from 1 0
+    scan_round z =
+        record { within = omega arith; same = sym (ready_round d place (omega arith)) ∙ ap (λ (r : ℕ). scanned d r place) (sym z) ∙ h.same }

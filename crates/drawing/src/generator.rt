@@ -1,5 +1,5 @@
 // The generator: its state is a number of 32 bits that wraps, and draws a place among the pending ones.
-ghost use Rattle.std.specs.Prelude.{◌≡◌, ◌<◌};
+ghost use Rattle.std.specs.Prelude.{◌≡◌, ◌*◌, ◌%◌, ◌^◌, ◌<◌};
 ghost use Rattle.paper.specs.Programs.{next_state, drawn_place};
 
 // x starts at 1 and becomes 1664525x + 1013904223, wrapping at 2^32.
@@ -9,11 +9,19 @@ const MULTIPLIER: u32 = 1664525;
 
 const INCREMENT: u32 = 1013904223;
 
+// The product of two numbers of 32 bits, modulo 2^32. In 64 bits it does not wrap. Document 01 names this form: a multiply helper of
+// the program's own.
+fn wrapping_mul(a: u32, b: u32) -> u32
+    ensures { result ≡ (a * b) % 2 ^ 32 }
+{
+    (u64::from(a) * u64::from(b) % 4294967296) as u32
+}
+
 // The state after x.
 pub fn next_state(x: u32) -> u32
     ensures { result ≡ next_state x }
 {
-    MULTIPLIER.wrapping_mul(x).wrapping_add(INCREMENT)
+    wrapping_mul(MULTIPLIER, x).wrapping_add(INCREMENT)
 }
 
 // The place that the state x draws of n pending ones: x divided by 65,536, remainder by n.

@@ -15,10 +15,20 @@ fn ready_from(run: &Run, from: usize) -> usize
     ensures { result ≡ ready_from run.now from }
 {
     let n = layout::count(run);
-    (from..n)
-        .chain(0..n)
-        .find(|place| !rules::waits(run, *place))
-        .unwrap_or(n)
+    // Document 01 names this form: the place is given by break, and a label leaves the inner scan.
+    'scan: {
+        for place in from..n {
+            if !rules::waits(run, place) {
+                break 'scan place;
+            }
+        }
+        for place in 0..n {
+            if !rules::waits(run, place) {
+                break 'scan place;
+            }
+        }
+        n
+    }
 }
 
 // The place that is taken in state x: the drawn one, or the first ready one after it.

@@ -1,55 +1,23 @@
--- Laws of the calls: 12, 17, and the turns of a list of places. A step keeps the bytes ready for the next.
+-- Laws of a list of places: a step keeps the bytes ready for the next, and the turns of the list.
 use Rattle.std.specs.Prelude.{Result, Ok, Err}
 use mathlib.Core.Path.{◌≡◌, refl, sym, subst, ◌∙◌}
-use mathlib.Core.Bool.{Bool, true, false}
+use mathlib.Core.Bool.{true}
 use mathlib.Core.List.{List}
 use Prim.Native.Nat.{ℕ, zero, suc, ◌+◌, ◌≤◌, ◌<◌}
 use native.Mathlib.Omega.{arith}
 use lib.ListN.{length, get_or, drop, drop_of_length-le}
-use borrow.Author.Tests.{eq-eqb, ne_eqb}
-use Rattle.std.specs.Array.{IsWholeChunk}
 use Rattle.base.specs.Lists.{Bytes}
 use Rattle.base.proofs.Positions.{drop_at_element}
-use Rattle.paper.specs.Refusals.{wrong_length, not_sound, refusal_number}
+use Rattle.paper.specs.Refusals.{refusal_number}
 use Rattle.paper.specs.declared.refused.Refusal.{Refusal}
 use Rattle.layout.specs.Offsets.{run_bytes}
 use Rattle.layout.specs.Soundness.{sound_bytes}
 use Rattle.layout.proofs.SoundViews.{tested, shaped, view_sound, canonical}
-use Rattle.rules.specs.Bytes.{Out, out, taken_bytes, step_bytes, onward_bytes, all_taken, steps_bytes}
+use Rattle.rules.specs.Bytes.{Out, out, taken_bytes, onward_bytes, all_taken}
 use Rattle.rules.specs.Results.{taken}
 use Rattle.rules.specs.Numbers.{rule_number}
 use Rattle.rules.specs.declared.numbered.Rule.{Rule}
 use Rattle.rules.proofs.Bridge.{Ready, bytes_of, taken_left}
-
--- a step and a list: the length, soundness, and what is then done with the run's bytes, which are all of d
-module _ (d : List ℕ) where
-  module _ (p : ℕ) where
-    pub step_length : (length d ≡ run_bytes → ⊥) → out wrong_length 0 d ≡ step_bytes d p
-    unfolding step_bytes
-    step_length h = rw (ne_eqb (length d) run_bytes h)
-
-    module _ (e : List ℕ) (w : IsWholeChunk d e run_bytes) (b : Bool) (s : b ≡ sound_bytes e) where
-      pub step_taken : (o : Out) → b ≡ true → o ≡ taken_bytes e p → o ≡ step_bytes d p
-      unfolding step_bytes
-      step_taken o f g = rw (eq-eqb (length d) run_bytes w.long, ← w.same, ← s, f) g
-
-      pub step_unsound : b ≡ false → out not_sound 0 e ≡ step_bytes d p
-      unfolding step_bytes
-      step_unsound f = rw (eq-eqb (length d) run_bytes w.long, ← w.same, ← s, f)
-
-  module _ (ps : List ℕ) where
-    pub steps_length : (length d ≡ run_bytes → ⊥) → out wrong_length 0 d ≡ steps_bytes d ps
-    unfolding steps_bytes
-    steps_length h = rw (ne_eqb (length d) run_bytes h)
-
-    module _ (e : List ℕ) (w : IsWholeChunk d e run_bytes) (b : Bool) (s : b ≡ sound_bytes e) where
-      pub steps_taken : (o : Out) → b ≡ true → o ≡ all_taken ps 0 e → o ≡ steps_bytes d ps
-      unfolding steps_bytes
-      steps_taken o f g = rw (eq-eqb (length d) run_bytes w.long, ← w.same, ← s, f) g
-
-      pub steps_unsound : b ≡ false → out not_sound 0 e ≡ steps_bytes d ps
-      unfolding steps_bytes
-      steps_unsound f = rw (eq-eqb (length d) run_bytes w.long, ← w.same, ← s, f)
 
 -- sound bytes are ready, and a step leaves them so
 pub sound_ready : (d : List ℕ) → length d ≡ run_bytes → sound_bytes d ≡ true → Bytes d → Ready d

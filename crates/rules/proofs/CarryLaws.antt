@@ -14,7 +14,7 @@ use Rattle.paper.specs.Sizes.{most_cabinets, most_unknowns, most_records, most_p
 use Rattle.paper.specs.Rules.{part_statements, news_to}
 use Rattle.paper.specs.declared.Item.{Item}
 use Rattle.paper.specs.declared.Item.TheVariants.{Statement, Ask}
-use Rattle.layout.specs.Offsets.{unknowns_at, memo_from}
+use Rattle.layout.specs.Offsets.{run_bytes, unknowns_at, memo_from}
 use Rattle.layout.specs.Fields.{byte_at, symbol_of, part_count_of, part_of, parts_from, count_of}
 use Rattle.layout.specs.Changes.{store_of, with_store, removed_at, appended_all}
 use Rattle.layout.specs.Given.{Reads, byte_limit}
@@ -99,12 +99,6 @@ module _ (d : List ℕ) (c a b : ℕ) where
 
 -- the number of a decomposition's products, as it is read
 module _ (d : List ℕ) (a w n : ℕ) (q : Choice) (rw₀ : Reads (byte_at d unknowns_at) byte_limit w) where
-  pub above_unknowns : (q ≡ Decompose → byte_at d unknowns_at ≤ a) → q ≡ Decompose → w ≤ a
-  above_unknowns h f = omega (arith, rw₀.same, h f)
-
-  pub products_decompose : q ≡ Decompose → Reads (part_count_of d (a - w)) byte_limit n → Reads (product_count d a q) byte_limit n
-  products_decompose f r = record { same = r.same ∙ rw (rw₀.same, f) refl; small = r.small }
-
   pub decompose_fits : (p : ℕ) → q ≡ Decompose → Reads (part_count_of d (a - w)) byte_limit n → Fits d p (product_count d a q) → Fits d p n
   decompose_fits p f r h =
       let e : product_count d a q ≡ n = rw (f, ← rw₀.same) (sym r.same) in
@@ -145,14 +139,14 @@ decompose_count d c a b e =
     part_statements_lem c (parts_of d a) (parts_of d b) (x ∙ same_counts d c a b Decompose e refl ∙ sym y) ∙ x
 
 -- with the store put back, what a statement's rule leaves
-module _ (d : List ℕ) (p c a b : ℕ) (hc : c < most_cabinets) where
+module _ (d : List ℕ) (p c a b : ℕ) (hc : c < most_cabinets) (l : length d ≡ run_bytes) where
   abbrev saved : Done → Out
   saved (done n ms e) = out 0 n (with_store c ms e)
   saved (refused n e) = out n 0 e
 
   saved_plan : (k : ℕ) (js : List Item) (ch : Change) → Local c ch → Fits d p (length js)
       → saved (done_bytes (store_of c d) d p (plan k js ch)) ≡ performed_bytes d p (plan k js ch)
-  saved_plan k js ch h f = rw (le-leb (count_of d - 1 + length js) room f.enough) (ap (out 0 k) (put_back c hc d p js f ch h))
+  saved_plan k js ch h f = rw (le-leb (count_of d - 1 + length js) room f.enough) (ap (out 0 k) (put_back c hc d l p js f ch h))
 
   saved_choice : (q : Choice) → q ≡ choice_of (byte_at d unknowns_at) d c a b → Fits d p (product_count d a q)
       → saved (done_bytes (store_of c d) d p (plan_of_choice d c a b q)) ≡ performed_bytes d p (plan_of_choice d c a b q)
@@ -170,18 +164,18 @@ module _ (d : List ℕ) (p c a b : ℕ) (hc : c < most_cabinets) where
       saved_plan 6 (part_statements c (parts_of d a) (parts_of d b)) nothing tt (subst (Fits d p) (sym (decompose_count d c a b e)) f)
   saved_choice Initiate e f = saved_plan 7 (Ask c a b ∷ Statement c a b ∷ []) (mark c a 254) refl f
 
-module _ (d : List ℕ) (p c a b : ℕ) (q : Choice) (marks : List ℕ) (s : StatementIn d c a b) (f : Fits d p (product_count d a q))
-    (k : q ≡ choice_of (byte_at d unknowns_at) d c a b) (m : marks ≡ store_of c d) where
+module _ (d : List ℕ) (p c a b : ℕ) (q : Choice) (marks : List ℕ) (l : length d ≡ run_bytes) (s : StatementIn d c a b) (f : Fits d p (product_count d a q))
+    (k : q ≡ choice_of (byte_at d unknowns_at) d c a b) (i : ℕ) (u : i ≡ c) (m : marks ≡ store_of i d) where
   performed : (r : Done) → r ≡ done_bytes marks d p (plan_of_choice d c a b q)
-      → saved d p c a b s.cabinet r ≡ performed_bytes d p (plan_of_choice d c a b (choice_of (byte_at d unknowns_at) d c a b))
+      → saved d p c a b s.cabinet l r ≡ performed_bytes d p (plan_of_choice d c a b (choice_of (byte_at d unknowns_at) d c a b))
   performed r h =
-      ap (saved d p c a b s.cabinet) (h ∙ ap (λ (l : List ℕ). done_bytes l d p (plan_of_choice d c a b q)) m)
-      ∙ saved_choice d p c a b s.cabinet q k f
+      ap (saved d p c a b s.cabinet l) (h ∙ ap (λ (ms : List ℕ). done_bytes ms d p (plan_of_choice d c a b q)) (m ∙ ap (λ (j : ℕ). store_of j d) u))
+      ∙ saved_choice d p c a b s.cabinet l q k f
       ∙ ap (λ (r : Choice). performed_bytes d p (plan_of_choice d c a b r)) k
 
-  pub carried : (n : ℕ) (ms e e' : List ℕ) → done n ms e ≡ done_bytes marks d p (plan_of_choice d c a b q) → e' ≡ with_store c ms e
+  pub carried : (n : ℕ) (ms e e' : List ℕ) → done n ms e ≡ done_bytes marks d p (plan_of_choice d c a b q) → (j : ℕ) → j ≡ c → e' ≡ with_store j ms e
       → out 0 n e' ≡ performed_bytes d p (plan_of_choice d c a b (choice_of (byte_at d unknowns_at) d c a b))
-  carried n ms e e' h g = ap (out 0 n) g ∙ performed (done n ms e) h
+  carried n ms e e' h j w g = ap (out 0 n) (g ∙ ap (λ (k : ℕ). with_store k ms e) w) ∙ performed (done n ms e) h
 
 pub news_count : (k c x u : ℕ) → length (news_to c k x u) ≡ k
 news_count zero c x u = refl

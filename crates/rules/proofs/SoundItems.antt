@@ -66,8 +66,8 @@ module _ (d : List ℕ) (p : ℕ) (s : sound_bytes d ≡ true) (here : p < count
   pub sound_place : p < room
   sound_place = omega (arith, here, (range d s).count)
 
-  pub sound_fits : length d ≡ run_bytes → Fits d p 0
-  sound_fits l = record { long = l; count = (range d s).count; place = here; enough = omega (arith, (range d s).count) }
+  pub sound_fits : Fits d p 0
+  sound_fits = record { count = (range d s).count; place = here; enough = omega (arith, (range d s).count) }
 
   module _ (j : Item) (e : j ≡ item_at d p) where
     sound_item : {i : Item} → j ≡ i → ItemIn d i
@@ -77,7 +77,6 @@ module _ (d : List ℕ) (p : ℕ) (s : sound_bytes d ≡ true) (here : p < count
     sound_statement c a b f l =
         let i = sound_item f in
         record {
-          long = l;
           unknowns = (range d s).unknowns;
           records = (range d s).records;
           parts = (shaped d l (tested d s)).parts;

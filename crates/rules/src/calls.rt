@@ -10,6 +10,7 @@ use layout::Run;
 use paper::Refusal;
 
 // One step: the item at `place` is taken.
+#[tactic(auto, unfolding(crate::specs::Bytes::step_bytes))]
 pub fn step(run: &mut [u8], place: usize) -> Result<Rule, Refusal>
     ensures { taken result run.new ≡ step_bytes run.old place }
 {
@@ -43,6 +44,7 @@ fn take_all(run: &mut Run, places: &[u32]) -> Result<usize, Stopped>
 }
 
 // A list of steps, with the run's length and soundness checked once: how many places there were.
+#[tactic(auto, unfolding(crate::specs::Bytes::steps_bytes))]
 pub fn steps(run: &mut [u8], places: &[u32]) -> Result<usize, Stopped>
     ensures { listed result run.new ≡ steps_bytes run.old places.now }
 {

@@ -3,7 +3,6 @@ ghost use Rattle.std.specs.Prelude.{◌≡◌, true, [], ◌+◌, ◌≤◌, ◌
 ghost use Rattle.paper.specs.Sizes.{most_cabinets, most_unknowns, most_records};
 ghost use Rattle.layout.specs.Offsets.{cabinets_at, unknowns_at, records_at, owners_at};
 ghost use Rattle.layout.specs.Fields.{byte_at, count_of};
-ghost use Rattle.layout.specs.Changes.{store_of};
 ghost use Rattle.layout.specs.Soundness.{sound_bytes};
 ghost use Rattle.layout.specs.Given.{Reads, byte_limit};
 ghost use Rattle.choices.specs.declared.Choice.TheVariants.{Decompose};
@@ -18,27 +17,25 @@ ghost use Rattle.rules.specs.Results.{taken};
 ghost use Rattle.rules.specs.Given.{product_count, full_for, done_bytes, as_done, waits_in, waits_bytes};
 
 use super::numbered::Rule;
-use choices::Choice;
+use choices::{Choice, Statement};
 use layout::{Run, Store};
 use paper::{Item, Refusal, sizes};
 
-// An owner mark that is not set.
-const NO_OWNER: usize = layout::NOTHING as usize;
-
 // How many products a statement with the left side a has, by its choice; one that waits has none.
-fn products(run: &Run, a: u8, q: Choice) -> usize
-    requires { (byte_at run.now records_at ≤ most_records) × (a < byte_at run.now unknowns_at + byte_at run.now records_at) × (q ≡ Decompose → byte_at run.now unknowns_at ≤ a) }
-    ensures { Reads (product_count run.now a q) byte_limit result }
+fn products(run: &Run, a: u8, choice: Choice) -> usize
+    requires { (byte_at run.now records_at ≤ most_records) × (a < byte_at run.now unknowns_at + byte_at run.now records_at) × (choice ≡ Decompose → byte_at run.now unknowns_at ≤ a) }
+    ensures { Reads (product_count run.now a choice) byte_limit result }
 {
-    match q {
+    match choice {
         Choice::Waits | Choice::Memo | Choice::Identify | Choice::Conflict => 0,
         Choice::Interchange | Choice::Dereference(_) => 1,
-        Choice::Decompose => layout::part_count(run, a as usize - layout::unknowns(run)),
+        Choice::Decompose => layout::part_count(run, usize::from(a) - layout::unknowns(run)),
         Choice::Initiate => 2,
     }
 }
 
 // Whether there is no room for n products once an item goes.
+#[tactic(auto, unfolding(crate::specs::Given::full_for))]
 fn full(run: &Run, n: usize) -> bool
     requires { (0 < count_of run.now) × (n < byte_limit) }
     ensures { result ≡ full_for n run.now }
@@ -56,78 +53,78 @@ struct Carried {
 // The rule of a statement's choice, with its cabinet's store in and out by value; where it waits, nothing is changed.
 fn by_choice(
     run: &mut Run,
-    s: Store,
+    store: Store,
     place: usize,
-    c: u8,
-    a: u8,
-    b: u8,
-    q: Choice,
+    s: Statement,
+    choice: Choice,
 ) -> Result<Carried, Refusal>
-    requires { StatementIn run.old c a b × Fits run.old place (product_count run.old a q) × (q ≡ choice_of (byte_at run.old unknowns_at) run.old c a b) }
-    ensures { as_done result run.new ≡ done_bytes s.marks run.old place (plan_of_choice run.old c a b q) }
+    requires { StatementIn run.old s.cabinet s.left s.right × Fits run.old place (product_count run.old s.left choice) × (choice ≡ choice_of (byte_at run.old unknowns_at) run.old s.cabinet s.left s.right) }
+    ensures { as_done result run.new ≡ done_bytes store.marks run.old place (plan_of_choice run.old s.cabinet s.left s.right choice) }
 {
-    match q {
+    match choice {
         Choice::Waits => Err(Refusal::StillWaits),
         Choice::Interchange => Ok(Carried {
             rule: Rule::Interchange,
-            store: effects::interchange(run, s, place, c, a, b),
+            store: effects::interchange(run, store, place, s),
         }),
         Choice::Memo => Ok(Carried {
             rule: Rule::Memo,
-            store: effects::memo(run, s, place),
+            store: effects::memo(run, store, place),
         }),
         Choice::Dereference(m) => Ok(Carried {
             rule: Rule::Dereference,
-            store: effects::dereference(run, s, place, c, a, b, m),
+            store: effects::dereference(run, store, place, s, m),
         }),
         Choice::Identify => Ok(Carried {
             rule: Rule::Identify,
-            store: effects::identify(run, s, place),
+            store: effects::identify(run, store, place),
         }),
         Choice::Conflict => Ok(Carried {
             rule: Rule::Conflict,
-            store: effects::conflict(run, s, place, c),
+            store: effects::conflict(run, store, place, s.cabinet),
         }),
         Choice::Decompose => {
             let v = layout::unknowns(run);
-            let i = a as usize - v;
+            let i = usize::from(s.left) - v;
+            let k = usize::from(s.right) - v;
             let n = layout::part_count(run, i);
             Ok(Carried {
                 rule: Rule::Decompose,
-                store: effects::decompose(run, s, place, c, i, b as usize - v, n),
+                store: effects::decompose(run, store, place, s.cabinet, i, k, n),
             })
         }
         Choice::Initiate => Ok(Carried {
             rule: Rule::Initiate,
-            store: effects::initiate(run, s, place, c, a, b),
+            store: effects::initiate(run, store, place, s),
         }),
     }
 }
 
-// The statement a = b at `place`: its choice by its cabinet's store, 14 and 18, then its rule. What waits has no products, so
-// that there is room for them and it is told 14.
-fn take_statement(run: &mut Run, place: usize, c: u8, a: u8, b: u8) -> Result<Rule, Refusal>
-    requires { StatementIn run.old c a b × Fits run.old place 0 }
-    ensures { taken result run.new ≡ performed_bytes run.old place (plan_of_choice run.old c a b (choice_of (byte_at run.old unknowns_at) run.old c a b)) }
+// A statement at `place`: its choice by its cabinet's store, 14 and 18, then its rule. What waits has no products, so that there is
+// room for them and it is told 14.
+fn take_statement(run: &mut Run, place: usize, s: Statement) -> Result<Rule, Refusal>
+    requires { StatementIn run.old s.cabinet s.left s.right × Fits run.old place 0 }
+    ensures { taken result run.new ≡ performed_bytes run.old place (plan_of_choice run.old s.cabinet s.left s.right (choice_of (byte_at run.old unknowns_at) run.old s.cabinet s.left s.right)) }
 {
-    let s = layout::load_store(run, c as usize);
-    let q = choices::choose(run, s, c as usize, a as usize, b as usize);
-    let n = products(run, a, q);
+    let store = layout::load_store(run, usize::from(s.cabinet));
+    let choice = choices::choose(run, store, s);
+    let n = products(run, s.left, choice);
     if full(run, n) {
         return Err(Refusal::NoRoom);
     }
-    let carried = by_choice(run, s, place, c, a, b, q)?;
-    layout::save_store(run, c as usize, carried.store);
+    let carried = by_choice(run, store, place, s, choice)?;
+    layout::save_store(run, usize::from(s.cabinet), carried.store);
     Ok(carried.rule)
 }
 
 // An ask of x and u at `place`: the first wins, where there is room for its news; each later one loses.
+#[tactic(auto, using(crate::proofs::CarryLaws::news_count), unfolding(crate::specs::Given::full_for))]
 fn take_ask(run: &mut Run, place: usize, x: u8, u: u8) -> Result<Rule, Refusal>
     requires { Fits run.old place 0 × (byte_at run.old cabinets_at ≤ most_cabinets) × (x < most_unknowns) }
     ensures { taken result run.new ≡ performed_bytes run.old place (plan_of_ask run.old x u (byte_at run.old (owners_at + x))) }
 {
-    if layout::owner_at(run, x as usize) != NO_OWNER {
-        effects::replace_by_none(run, place);
+    if layout::owner_at(run, usize::from(x)).is_some() {
+        effects::replace(run, place, &[]);
         return Ok(Rule::Lose);
     }
     let s = layout::cabinets(run);
@@ -143,30 +140,38 @@ fn take_news(run: &mut Run, place: usize, c: u8, x: u8, u: u8) -> Rule
     requires { Fits run.old place 0 × (c < most_cabinets) × (x < most_unknowns) }
     ensures { out 0 (rule_number result) run.new ≡ performed_bytes run.old place (plan 10 [] (mark c x u)) }
 {
-    let s = layout::load_store(run, c as usize);
-    let t = effects::arrive(run, s, place, x, u);
-    layout::save_store(run, c as usize, t);
+    let store = layout::load_store(run, usize::from(c));
+    let told = effects::arrive(run, store, place, x, u);
+    layout::save_store(run, usize::from(c), told);
     Rule::Arrive
 }
 
 // The item at `place` of a sound run is taken: 15, 13, then what its kind says.
+#[tactic(auto, unfolding(crate::specs::Bytes::taken_bytes, crate::specs::Plans::plan_of))]
 pub fn take(run: &mut Run, place: usize) -> Result<Rule, Refusal>
     requires { sound_bytes run.old ≡ true }
     ensures { taken result run.new ≡ taken_bytes run.old place }
 {
-    if layout::clash_byte(run) != 0 {
+    if layout::has_clashed(run) {
         return Err(Refusal::HasClashed);
     }
     if place >= layout::count(run) {
         return Err(Refusal::NoSuchPlace);
     }
-    let j = layout::item_at(run, place);
-    match j {
+    match layout::item_at(run, place) {
         Item::Statement {
             cabinet,
             left,
             right,
-        } => take_statement(run, place, cabinet, left, right),
+        } => take_statement(
+            run,
+            place,
+            Statement {
+                cabinet,
+                left,
+                right,
+            },
+        ),
         Item::Ask { left, right, .. } => take_ask(run, place, left, right),
         Item::News {
             cabinet,
@@ -176,28 +181,34 @@ pub fn take(run: &mut Run, place: usize) -> Result<Rule, Refusal>
     }
 }
 
-// Whether the statement a = b waits at cabinet c.
-fn statement_waits(run: &Run, c: u8, a: u8, b: u8) -> bool
-    requires { StatementIn run.now c a b }
-    ensures { result ≡ waits_in (plan_of_choice run.now c a b (choice_of (byte_at run.now unknowns_at) run.now c a b)) }
+// Whether a statement waits at its cabinet.
+fn statement_waits(run: &Run, s: Statement) -> bool
+    requires { StatementIn run.now s.cabinet s.left s.right }
+    ensures { result ≡ waits_in (plan_of_choice run.now s.cabinet s.left s.right (choice_of (byte_at run.now unknowns_at) run.now s.cabinet s.left s.right)) }
 {
-    let s = layout::load_store(run, c as usize);
-    let q = choices::choose(run, s, c as usize, a as usize, b as usize);
-    matches!(q, Choice::Waits)
+    let store = layout::load_store(run, usize::from(s.cabinet));
+    matches!(choices::choose(run, store, s), Choice::Waits)
 }
 
 // Whether the item at `place` of a sound run waits: only a statement can.
+#[tactic(auto, unfolding(crate::specs::Given::waits_bytes, crate::specs::Plans::plan_of))]
 pub fn waits(run: &Run, place: usize) -> bool
     requires { (sound_bytes run.now ≡ true) × (place < count_of run.now) }
     ensures { result ≡ waits_bytes run.now place }
 {
-    let j = layout::item_at(run, place);
-    match j {
+    match layout::item_at(run, place) {
         Item::Statement {
             cabinet,
             left,
             right,
-        } => statement_waits(run, cabinet, left, right),
+        } => statement_waits(
+            run,
+            Statement {
+                cabinet,
+                left,
+                right,
+            },
+        ),
         Item::Ask { .. } | Item::News { .. } => false,
     }
 }

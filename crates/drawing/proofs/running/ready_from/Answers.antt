@@ -1,27 +1,24 @@
--- `ready_from` meets its contract: the scan goes over the places from `from` on and then over all.
-use Rattle.std.proofs.Common.{◌-◌, ◌≤◌, ◌<◌, refl, rules, arith}
-use borrow.Author.Tests.{tests}
-use Rattle.std.proofs.lemmas.Iterator.{YieldsList-from_range}
-use Rattle.std.proofs.lemmas.Iterator.Adapters.{serves_from_places}
-use Rattle.std.proofs.lemmas.Iterator.Consumers.{YieldsList-from_chain}
-use Rattle.std.proofs.lemmas.Iterator.Search.{find_from_yields_List}
-use Rattle.drawing.specs.Draws.{ready_at}
-use Rattle.drawing.proofs.ScanLaws.{around_below, ready_found}
+-- `ready_from` meets its contract: what is still to be found stays the same, in the first scan and in the second; one law for each
+-- way out.
+use Rattle.std.proofs.Common.{rules, refl, arith}
+use Rattle.drawing.proofs.ScanLaws.{scan_start, scan_waits, scan_ready, scan_round}
 use Rattle.drawing.proofs.running.ready_from.Goals as goal
 
-pub find-requires-clause-callable : goal.find-requires-clause-callable
-find-requires-clause-callable c =
-    let n = c.count-n.result in
-    let i = c.args.from in
-    let within : i ≤ n = omega arith in
-    serves_from_places (YieldsList-from_chain (YieldsList-from_range i n (n - i) (cc) refl) (YieldsList-from_range 0 n n (cc) (omega arith)) (cc) (cc))
-    (λ x q k. search rules) (λ x k l e. let there : x < n = around_below n i within x k l e in search rules)
+pub loop-place-init : goal.loop-place-init
+loop-place-init c = search scan_start
 
-pub returns : goal.returns
-unfolding ready_at
-returns c =
-    let n = c.count-n.result in
-    let i = c.args.from in
-    ready_found c.args.run.now n i _ c.find.result (search rules) (omega arith) (search rules)
-    (find_from_yields_List (ready_at c.args.run.now) _ _ c.find.result c.find.ensures.ran
-    (YieldsList-from_chain (YieldsList-from_range i n (n - i) (cc) refl) (YieldsList-from_range 0 n n (cc) (omega arith)) (cc) (cc)) (λ x b q k. search (rules, tests)))
+pub loop-place-preserved : goal.loop-place-preserved
+loop-place-preserved c = search scan_waits
+
+pub loop-place-2-init : goal.loop-place-2-init
+loop-place-2-init c = scan_round _ _ 0 _ c.loop-place.invariant c.count-n.result c.count-n.ensures.same (omega arith) refl
+
+pub loop-place-2-preserved : goal.loop-place-2-preserved
+loop-place-2-preserved c = search scan_waits
+
+pub returns-then-not-waits : goal.returns-then-not-waits
+returns-then-not-waits c = scan_ready _ _ 0 _ c.loop-place.invariant c.count-n.result c.count-n.ensures.same (search rules) _ c.waits.ensures (search rules)
+
+pub returns-then-not-waits-2 : goal.returns-then-not-waits-2
+returns-then-not-waits-2 c =
+    scan_ready _ _ 1 _ c.loop-place-2.invariant c.count-n.result c.count-n.ensures.same (search rules) _ c.waits-in-loop-place-2.ensures (search rules)
