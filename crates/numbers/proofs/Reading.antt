@@ -17,7 +17,7 @@ use Rattle.std.specs.Prelude.{Result, Ok, Err, IsErr}
 use Rattle.std.proofs.Math.Bool.{and-false}
 use Rattle.paper.specs.declared.refused.Fault.{Fault}
 use Rattle.paper.specs.declared.Found.{Found}
-use Rattle.paper.specs.Found.{as_read as read_as}
+use Rattle.paper.specs.Found.{as_read}
 use Rattle.paper.specs.Sizes.{most_groups, top_group, number_limit}
 use Rattle.paper.specs.Refusals.{file_ends, bad_number}
 use Rattle.paper.specs.Numbers.{Read, got, fault, largest, above, groups_from, number_at, within, ranged_at}
@@ -54,11 +54,6 @@ module _ (left top least : ℕ) (s : List ℕ) (from at : ℕ) where
       another_follows : 128 ≤ b → (x : Read ℕ) → x ≡ groups_from (left - 1) top 1 s from (at + 1) → above (b % 128) x ≡ groups_from left top least s from at
       unfolding groups_from
       another_follows h x f = rw (one_at_least, ← e, ← f) (simp (lt-ltb _ _ inside, le-ltb _ _ h))
-
--- the way out of `largest_end` where a group may follow
-pub not_the_last : (k top : ℕ) → (k ≡ 0 → ⊥) → 127 ≡ largest k top
-not_the_last zero top n = absurd (n refl)
-not_the_last (suc k) top n = refl
 
 -- what was read is in range, and ends within the input
 record Inside (k top : ℕ) (s : List ℕ) (at n next : ℕ) : Type 0 where
@@ -145,29 +140,29 @@ joined_above n scale d (fault k p) = refl
 
 module _ (s : List ℕ) (at n scale least left here : ℕ) (h : SoFar s at n scale least left here) where
   -- what is read of the rest is what is read of all
-  as_read : (x : Read ℕ) → x ≡ groups_from left top_group least s at here → joined n scale x ≡ number_at s at
-  as_read x e = ap (joined n scale) e ∙ h.same
+  whole_read : (x : Read ℕ) → x ≡ groups_from left top_group least s at here → joined n scale x ≡ number_at s at
+  whole_read x e = ap (joined n scale) e ∙ h.same
 
   pub all_read : left ≤ 0 → fault bad_number at ≡ number_at s at
-  all_read l = as_read (fault bad_number at) (no_group_left left top_group least s at here (omega arith))
+  all_read l = whole_read (fault bad_number at) (no_group_left left top_group least s at here (omega arith))
 
   module _ (l : 0 < left) where
     some : left ≡ 0 → ⊥
     some e = omega arith
 
     pub cut_short : length s ≤ here → fault file_ends at ≡ number_at s at
-    cut_short k = as_read (fault file_ends at) (file_ends_lem left top_group least s at here some k)
+    cut_short k = whole_read (fault file_ends at) (file_ends_lem left top_group least s at here some k)
 
     module _ (inside : here < length s) (b : ℕ) (e : b ≡ get_or s here 0) where
       pub longer_than_need : b < 128 → b < least → fault bad_number at ≡ number_at s at
-      longer_than_need h1 h2 = as_read (fault bad_number at) (not_shortest left top_group least s at here some inside b e h1 h2)
+      longer_than_need h1 h2 = whole_read (fault bad_number at) (not_shortest left top_group least s at here some inside b e h1 h2)
 
       module _ (h1 : b < 128) (h2 : least ≤ b) (most : ℕ) (m : most ≡ largest (left - 1) top_group) where
         pub over_the_limit : most < b → fault bad_number at ≡ number_at s at
-        over_the_limit h3 = as_read (fault bad_number at) (too_large left top_group least s at here some inside b e most m h1 h2 h3)
+        over_the_limit h3 = whole_read (fault bad_number at) (too_large left top_group least s at here some inside b e most m h1 h2 h3)
 
         pub number_ends : b ≤ most → got (n + scale * b) (here + 1) ≡ number_at s at
-        number_ends h3 = as_read (got b (here + 1)) (group_ends left top_group least s at here some inside b e most m h1 h2 h3)
+        number_ends h3 = whole_read (got b (here + 1)) (group_ends left top_group least s at here some inside b e most m h1 h2 h3)
 
   -- the products and sums fit into 64 bits
   small_scale : 0 < left → scale ≤ limit 4 0
@@ -204,7 +199,7 @@ module _ (s : List ℕ) (at n scale least left here : ℕ) (h : SoFar s at n sca
       let y = small_product l (b % 128) (omega arith) in
       record {
         same = sym (joined_above n scale (b % 128) (groups_from (left - 1) top_group 1 s at (here + 1)))
-            ∙ as_read (above (b % 128) (groups_from (left - 1) top_group 1 s at (here + 1))) (another_follows left top_group least s at here (some l) inside b e k (groups_from (left - 1) top_group 1 s at (here + 1)) refl);
+            ∙ whole_read (above (b % 128) (groups_from (left - 1) top_group 1 s at (here + 1))) (another_follows left top_group least s at here (some l) inside b e k (groups_from (left - 1) top_group 1 s at (here + 1)) refl);
         few = omega (arith, h.few);
         scaled = rw q (omega (arith, h.scaled));
         below = omega (arith, h.below);
@@ -212,7 +207,7 @@ module _ (s : List ℕ) (at n scale least left here : ℕ) (h : SoFar s at n sca
 
 -- the ways out of `ranged_at`
 module _ (low below j : ℕ) (s : List ℕ) (at : ℕ) where
-  pub ranged_refused : (x : Result (Found ℕ) Fault) → IsErr x → read_as x ≡ number_at s at → read_as x ≡ ranged_at low below j s at
+  pub ranged_refused : (x : Result (Found ℕ) Fault) → IsErr x → as_read x ≡ number_at s at → as_read x ≡ ranged_at low below j s at
   unfolding ranged_at
   ranged_refused (Ok x) h e = cc
   ranged_refused (Err f) h e = rw (← e) refl

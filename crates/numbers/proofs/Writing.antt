@@ -16,10 +16,6 @@ use Rattle.paper.specs.Sizes.{number_limit}
 use Rattle.paper.specs.Numbers.{groups_of, number_bytes}
 use Rattle.numbers.proofs.Limits.{limit}
 
--- a store keeps the length
-pub as_long : (at v : ℕ) (d after : List ℕ) → length after ≡ length (set d at v) → length after ≡ length d
-as_long at v d after e = e ∙ length-set d at v
-
 -- the first group, and then the rest
 pub put_first : (at v : ℕ) (vs d : List ℕ) → at + 1 + length vs ≤ length d → put (at + 1) vs (set d at v) ≡ put at (v ∷ vs) d
 unfolding put

@@ -20,7 +20,7 @@ fn largest_end(more: usize) -> u64
 
 // The number at `at`. The groups before `here` come to `value`; what follows counts `scale` times, and after the group at `here`
 // at most `more` may follow. The ending group is at least `least`: 0 for a number's first group and 1 for a later one, which
-// gives the shortest form.
+// gives the shortest form. `here` is counted beside `more`, since a sum of `at` and a count may not fit.
 pub fn number_at(s: &[u8], at: usize) -> Result<Found<u64>, Fault>
     ensures { as_read result ≡ number_at s.now at }
 {

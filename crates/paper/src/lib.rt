@@ -1,5 +1,5 @@
-// Document 01 in definitions (specs/) and what is true of them (proofs/). The code here is what the crates above share: two
-// types, which the definitions have too, and the numbers.
+// Document 01 in definitions (specs/) and what is true of them (proofs/). The code here is what the crates above share: what is
+// found or refused, and an item, which the definitions have too, and the numbers.
 #![tactic(auto)]
 
 pub mod refusal; // refusal.rt: the refusal numbers

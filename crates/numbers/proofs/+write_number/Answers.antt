@@ -1,5 +1,5 @@
 -- `write_number` meets its contract: one law of writing for each way out. It ends because the number falls.
-use Rattle.numbers.proofs.Writing.{room_for_one, short_written, room_for_rest, long_written, as_long}
+use Rattle.numbers.proofs.Writing.{room_for_one, short_written, room_for_rest, long_written}
 use borrow.Author.Rules.{rules}
 use Rattle.numbers.proofs.+write_number.Goals as goal
 
@@ -14,9 +14,6 @@ bounds-buf-at-2 t c = search room_for_one
 
 pub write_number-requires : goal.write_number-requires
 write_number-requires t c = search (room_for_rest, rules)
-
-pub shape_of-buf : goal.shape_of-buf
-shape_of-buf t c = search as_long
 
 pub returns : goal.returns
 returns t c = search long_written

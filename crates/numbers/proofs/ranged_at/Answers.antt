@@ -1,5 +1,5 @@
 -- `ranged_at` meets its contract: one law of reading for each way out.
-use Rattle.std.proofs.Common.{rules, tests}
+use Rattle.std.proofs.Common.{rules}
 use Rattle.numbers.proofs.Reading.{ranged_refused, ranged_low, ranged_high, ranged_got}
 use Rattle.numbers.proofs.ranged_at.Goals as goal
 
@@ -7,7 +7,7 @@ pub returns-in_err-number : goal.returns-in_err-number
 returns-in_err-number c = search (ranged_refused, rules)
 
 pub returns-then-contains : goal.returns-then-contains
-returns-then-contains c = search (ranged_got, tests, rules)
+returns-then-contains c = search (ranged_got, rules)
 
 pub returns-else-contains : goal.returns-else-contains
-returns-else-contains c = search (ranged_low, ranged_high, tests, rules)
+returns-else-contains c = search (ranged_low, ranged_high, rules)

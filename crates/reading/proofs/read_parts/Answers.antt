@@ -1,10 +1,7 @@
 -- `read_parts` meets its contract: one law of a record for each way out, and for the turns of its loop.
 use Rattle.std.proofs.Common.{rules}
-use Rattle.reading.proofs.RecordFinds.{no_part_yet, parts_read, part_refused, part_read, part_fits}
+use Rattle.reading.proofs.RecordFinds.{parts_read, part_refused, part_read, part_fits}
 use Rattle.reading.proofs.read_parts.Goals as goal
-
-pub loop-i-init : goal.loop-i-init
-loop-i-init c = search no_part_yet
 
 pub returns-in_err-part : goal.returns-in_err-part
 returns-in_err-part c = search (part_refused, rules)
