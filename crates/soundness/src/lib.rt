@@ -67,10 +67,13 @@ impl Sizes {
     fn lesser(self, u: usize, x: usize) -> bool
         ensures { result ≡ lesser self.unknowns self.records u x }
     {
+        if x >= self.unknowns {
+            return false;
+        }
         if u < self.unknowns {
-            x < self.unknowns && u < x
+            u < x
         } else {
-            x < self.unknowns && u < self.unknowns + self.records
+            u < self.unknowns + self.records
         }
     }
 
@@ -210,10 +213,12 @@ impl Sizes {
     fn item_ok(self, k: u8, c: usize, a: usize, b: usize) -> bool
         ensures { result ≡ item_ok self.cabinets self.unknowns self.records k c a b }
     {
-        let entries = self.unknowns + self.records;
+        if c >= self.cabinets {
+            return false;
+        }
         match k {
-            1 => c < self.cabinets && a < entries && b < entries,
-            2 | 3 => c < self.cabinets && self.lesser(b, a),
+            1 => a < self.unknowns + self.records && b < self.unknowns + self.records,
+            2 | 3 => self.lesser(b, a),
             _ => false,
         }
     }
