@@ -2,12 +2,13 @@
 use Prim.Native.Nat.{ℕ, zero, suc, ◌+◌, ◌-◌, ◌*◌, ◌/◌, ◌%◌, ◌≤◌, ◌<◌}
 use mathlib.Core.Path.{◌≡◌, refl, ap, ap₂, subst, ◌∙◌}
 use mathlib.Core.Bool.{Bool, true, false}
-use mathlib.Core.List.{List, [], ◌∷◌, ◌++◌, append_assoc, map}
+use mathlib.Core.List.{List, [], ◌∷◌, ◌++◌, append_assoc}
 use mathlib.Core.Option.{Option, none, some}
 use native.Mathlib.Omega.{arith}
 use borrow.Author.Tests.{le-leb}
 use lib.ListN.{length, get_or, replicate, length-append, length-replicate, get_or-append}
 use lib.Seq.{get_or-append-add}
+use Rattle.std.proofs.lemmas.List.{length-map}
 use Rattle.base.specs.Lists.{list_from, All}
 use Rattle.base.specs.Puts.{PutFrom}
 use Rattle.paper.specs.Sizes.{most_parts, number_limit}
@@ -47,13 +48,9 @@ module _ (t : Table) (ok : TableOk t) where
   end_ok o zero a = tt
   end_ok o (suc n) a = entry_ok (is_unknown t a) (o a) a (λ v. followed t o n v) (λ v. end_ok o n v)
 
-map_length : (f : ℕ → ℕ) (l : List ℕ) → length (map f l) ≡ length l
-map_length f [] = refl
-map_length f (x ∷ l) = ap suc (map_length f l)
-
 look_ok : (e : ℕ → End) (v : ℕ) (z : End) → EndOk z → LookOk (look_of e v z)
 look_ok e v (at_open z) h = tt
-look_ok e v (at_record q) h = (h.0, omega (arith, h.1, map_length (lowest_of e v) q.parts))
+look_ok e v (at_record q) h = (h.0, omega (arith, h.1, length-map q.parts (lowest_of e v)))
 
 row_ok : (t : Table) (r : Run) (x : ℕ) → TableOk t → LookOk (map_row t r x).look
 unfolding map_row row_of end_of
