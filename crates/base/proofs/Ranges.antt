@@ -1,12 +1,25 @@
 -- Laws of a test of every number below n: what a loop over the numbers asks, and what it means; and of what holds from one
 -- number up to another.
-use mathlib.Core.Path.{◌≡◌, refl, subst}
+use mathlib.Core.Path.{◌≡◌, refl, sym, subst, ◌∙◌}
 use mathlib.Core.Logic.{⊎_elim}
-use mathlib.Core.Bool.{Bool, true, false, ◌&&◌}
+use mathlib.Core.Bool.{Bool, true, false, ◌&&◌, and_comm}
 use Prim.Native.Nat.{ℕ, zero, suc, ◌+◌, ◌-◌, ◌*◌, ◌≤◌, ◌<◌}
-use native.Mathlib.Nat.{mul-suc}
+use native.Mathlib.Nat.{mul-suc, zero-add}
 use native.Mathlib.Numerals.{add-one}
 use native.Mathlib.Omega.{arith}
+use denote.Param.Members.{Mut}
+use lib.ListN.{length, get_or}
+use Rattle.std.specs.declared.ops.Range.{Range}
+use Rattle.std.proofs.lemmas.List.FromFn.{length-range_with_len, get_or-range_with_len}
+use mathlib.Core.List.{List}
+use Rattle.std.proofs.iter.Yields.{nat_range_steps}
+use Rattle.std.specs.Bool.{MatchBool}
+use Rattle.std.specs.Fn.{Called}
+use Rattle.std.specs.Iterator.{YieldsThen}
+use Rattle.std.specs.List.{range_with_len, FoldsTo, AllWithin, HoldsAt}
+use Rattle.std.specs.Option.{MatchOption}
+use Rattle.std.specs.Prelude.{Option}
+use Rattle.std.proofs.lemmas.Iterator.{cases_from_all, YieldsList-from_range}
 use Rattle.base.specs.Choice.{all_below}
 use Rattle.base.proofs.Tests.{fst_true, snd_true, not_both, not_true_false, last_or}
 use Rattle.base.proofs.Regions.{lt_or_le}
@@ -47,12 +60,32 @@ module _ (f : ℕ → Bool) where
   unfolding all_below
   tested_none = refl
 
-  pub tested_next : (i : ℕ) (b clean : Bool) → b ≡ (f i && clean) → clean ≡ all_below i f → b ≡ all_below (i + 1) f
+  pub tested_next : (i : ℕ) (b clean : Bool) → b ≡ f i → clean ≡ all_below i f → (clean && b) ≡ all_below (i + 1) f
   unfolding all_below
-  tested_next i b clean e h = rw (add-one, ← h) e
+  tested_next i b clean e h = rw (add-one, ← h, ← e) (and_comm clean b)
 
   pub tested_all : (n i : ℕ) (clean : Bool) → clean ≡ all_below i f → i ≤ n → n ≤ i → clean ≡ all_below n f
   tested_all n i clean h l k = let e : i ≡ n = omega arith in rw e at h
+
+-- `(0..n).all(..)`, whose closure says of each number what f says
+module _ {F : Type 0} {g : Mut F (ℕ × Unit {0}) Bool} {s : Range ℕ} {u : Range ℕ} {closure : F} (f : ℕ → Bool) (n : ℕ) where
+  pub all_range : (r : Bool)
+      → (xs : List ℕ) × (o : Option ℕ) × (j : F) × YieldsThen nat_range_steps s xs o u × FoldsTo (λ p x q. Called g p (x, tt) true q) closure xs j × MatchOption o (r ≡ true) (λ x. (r ≡ false) × ((h : F) × Called g j (x, tt) false h))
+      → s ≡ record { start = 0; end = n }
+      → ((x : ℕ) (q : F) → Called g closure (x, tt) true q → (q ≡ closure) × (f x ≡ true))
+      → ((x : ℕ) (q : F) → Called g closure (x, tt) false q → f x ≡ false)
+      → r ≡ all_below n f
+  all_range r ran e passes fails =
+      go r (cases_from_all u closure r (λ x. f x ≡ true) (λ x. f x ≡ false) ran (YieldsList-from_range 0 n n e (omega arith)) passes fails)
+    where
+      counted : (i : ℕ) → i < n → get_or (range_with_len 0 n) i 0 ≡ i
+      counted i l = get_or-range_with_len 0 n i 0 l ∙ zero-add i
+
+      go : (b : Bool) → MatchBool b (AllWithin (λ x. f x ≡ true) (range_with_len 0 n) 0 (length (range_with_len 0 n))) ((k : ℕ) × (k < length (range_with_len 0 n)) × HoldsAt (λ x. f x ≡ false) (range_with_len 0 n) k) → b ≡ all_below n f
+      go true h = sym (each_below f n (λ i l. subst (λ (m : ℕ). f m ≡ true) (counted i l) (h i 0 (omega arith) (omega (arith, length-range_with_len 0 n)))))
+      go false (i, l, h) =
+          let k : i < n = omega (arith, length-range_with_len 0 n) in
+          sym (below_fails f n i k (subst (λ (m : ℕ). f m ≡ false) (counted i k) (h 0)))
 
 -- P holds from lo up to hi
 abbrev pub Within : (ℕ → Type 0) → ℕ → ℕ → Type 0

@@ -1,12 +1,16 @@
--- Laws of regions: lengths, what stands at each index, a loop that moves, copies out or copies in, and put against get.
+-- Laws of regions: lengths, what stands at each index, what a write to a part of a slice, a move and a loop that copies in leave,
+-- and put against get.
 use Prim.Native.Nat.{ℕ, suc, ◌+◌, ◌-◌, ◌≤◌, ◌<◌}
 use mathlib.Core.Path.{◌≡◌, refl, sym, ap, subst, ◌∙◌}
 use mathlib.Core.Logic.{◌⊎◌, inl, inr}
-use mathlib.Core.List.{List, [], ◌∷◌, ◌++◌, append-nil}
-use lib.ListN.{length, get_or, take, drop, set, length-append, length-take, length-drop, length-set, get_or-append, drop_of_length-le, replicate, length-replicate, get_or-replicate}
-use lib.Seq.{length-take-le, get_or-take, get_or-drop, get_or-append-add, sets-eq, ext_get_or, get_or-set_same, get_or-set_other, paste, paste-zero, paste-suc, take_all}
-use native.Mathlib.Numerals.{add-one, towards_suc}
-use native.Mathlib.Nat.{zero-add, add-sub_of_le, sub_self}
+use mathlib.Core.List.{List, ◌++◌}
+use borrow.Rule.Slice.PartMut.{put_mid}
+use Rattle.std.specs.List.{copy_within}
+use Rattle.std.proofs.lemmas.Slice.{put_mid-paste}
+use lib.ListN.{length, get_or, take, drop, set, length-append, length-take, length-drop, length-set, get_or-append, replicate, length-replicate, get_or-replicate}
+use lib.Seq.{length-take-le, get_or-take, get_or-drop, get_or-append-add, ext_get_or, get_or-set_same, get_or-set_other, paste, paste-zero, paste-suc, take_all}
+use native.Mathlib.Numerals.{add-one}
+use native.Mathlib.Nat.{add-sub_of_le}
 use native.Mathlib.Decide.{dec_lt, ℕ_discrete}
 use native.Mathlib.Omega.{arith}
 use Rattle.base.specs.Regions.{put, get, shifted, gone}
@@ -41,9 +45,10 @@ module _ (at : ℕ) (vs d : List ℕ) (fits : at + length vs ≤ length d) where
       subst (λ (k : ℕ). get_or (put at vs d) k 0 ≡ get_or d j 0) e
       (get_or-append-add (take at d ++ vs) (drop (at + length vs) d) (j - (at + length vs)) 0 ∙ get_or-drop (at + length vs) d (j - (at + length vs)) 0 ∙ ap (λ (k : ℕ). get_or d k 0) (add-sub_of_le h))
 
-pub put_sets4 : (d : List ℕ) (at a b c e : ℕ) → at + 4 ≤ length d → set (set (set (set d at a) (at + 1) b) (at + 2) c) (at + 3) e ≡ put at (a ∷ b ∷ c ∷ e ∷ []) d
+-- what a write to a part of a slice leaves, n bytes from `at` on: the part became vs
+pub part_put : (at n : ℕ) (d part vs : List ℕ) → part ≡ vs → n ≡ length vs → put_mid at n d part ≡ put at vs d
 unfolding put
-put_sets4 d at a b c e h = simp towards_suc (simp towards_suc at (sets-eq (a ∷ b ∷ c ∷ e ∷ []) d at h))
+part_put at n d part vs e h = put_mid-paste at n d part vs (length vs) e (sym h) refl ∙ rw (take_all (length vs) vs (omega arith)) refl
 
 -- a test with both its outcomes
 pub lt_or_le : (i j : ℕ) → (i < j) ⊎ (j ≤ i)
@@ -57,6 +62,10 @@ module _ (at n : ℕ) (d : List ℕ) (fits : at + n ≤ length d) where
   pub get_at : (i : ℕ) → i < n → get_or (get at n d) i 0 ≡ get_or d (at + i) 0
   unfolding get
   get_at i h = get_or-take n (drop at d) i 0 h ∙ get_or-drop at d i 0
+
+-- an element of a part of a slice
+pub part_at : (at n i : ℕ) (d : List ℕ) → i < n → get_or (take (at + n - at) (drop at d)) i 0 ≡ get_or d (at + i) 0
+part_at at n i d h = get_or-take (at + n - at) (drop at d) i 0 (omega arith) ∙ get_or-drop at d i 0
 
 module _ (w at i : ℕ) (d : List ℕ) (low : at ≤ i) (high : i + w ≤ length d) where
   moved_length : length (get (at + w) (i - at) d) ≡ i - at
@@ -87,42 +96,13 @@ module _ (w at i : ℕ) (d : List ℕ) (low : at ≤ i) (high : i + w ≤ length
       (put_in at (get (at + w) (i - at) d) d (rw moved_length (omega arith)) (k - at) (rw moved_length (omega arith))
       ∙ get_at (at + w) (i - at) d (omega arith) (k - at) (omega arith) ∙ ap (λ (m : ℕ). get_or d m 0) f)
 
-shift_none : (w at : ℕ) (d : List ℕ) → at + w ≤ length d → d ≡ shifted w at at d
-shift_none w at d h = paste-zero d at (drop (at + w) d) ∙ ap (paste d at (drop (at + w) d)) (sym (sub_self at)) ∙ sym (shifted_paste w at at d (omega arith) h)
-
-shift_step : (w at i : ℕ) (d : List ℕ) → at ≤ i → i + w < length d
-    → set (shifted w at i d) i (get_or (shifted w at i d) (i + w) 0) ≡ shifted w at (i + 1) d
-shift_step w at i d h1 h2 =
-    let s : List ℕ = drop (at + w) d in
-    let e : at + (i - at) ≡ i = omega arith in
-    let f : i + w ≡ at + w + (i - at) = omega arith in
-    let n : suc (i - at) ≡ i + 1 - at = omega arith in
-    let v : get_or (shifted w at i d) (i + w) 0 ≡ get_or s (i - at) 0 =
-    shifted_after w at i d h1 (omega arith) (i + w) (omega arith) ∙ ap (λ (m : ℕ). get_or d m 0) f ∙ sym (get_or-drop (at + w) d (i - at) 0) in
-    rw v
-    (rw (shifted_paste w at i d h1 (omega arith), shifted_paste w at (i + 1) d (omega arith) (omega arith))
-    (subst (λ (m : ℕ). set (paste d at s (i - at)) m (get_or s (i - at) 0) ≡ paste d at s (i + 1 - at)) e
-    (paste-suc d at s (i - at) 0 (omega arith) (rw length-drop (omega arith)) ∙ ap (paste d at s) n)))
-
--- what a loop that closes a gap asks, with premises as they stand in code: i bytes have moved
-pub shift_start : (w at : ℕ) (d : List ℕ) → at + w ≤ length d → d ≡ shifted w at (at + 0) d
-shift_start w at d h = let z : at ≡ at + 0 = omega arith in subst (λ (m : ℕ). d ≡ shifted w at m d) z (shift_none w at d h)
-
-pub shift_again : (w at i e : ℕ) (d run : List ℕ) → i < e - w - at → e ≤ length d → run ≡ shifted w at (at + i) d
-    → set run (at + i) (get_or run (at + w + i) 0) ≡ shifted w at (at + (i + 1)) d
-shift_again w at i e d run h1 h2 q =
-    let a : at + i + w ≡ at + w + i = omega arith in
-    let b : at + i + 1 ≡ at + (i + 1) = omega arith in
-    subst (λ (m : ℕ). set run (at + i) (get_or run m 0) ≡ shifted w at (at + (i + 1)) d) a
-    (subst (λ (m : ℕ). set run (at + i) (get_or run (at + i + w) 0) ≡ shifted w at m d) b
-    (rw q (shift_step w at (at + i) d (omega arith) (omega arith))))
-
-pub gone_made : (w at i e : ℕ) (d run out : List ℕ) → at + w ≤ e → i ≤ e - w - at → e - w - at ≤ i → run ≡ shifted w at (at + i) d
-    → out ≡ put (e - w) (replicate w 0) run → out ≡ gone w at e d
+-- the move that closes a gap, and then the zeros
+pub gap_closed : (w at e : ℕ) (d moved out : List ℕ) → at + w ≤ e → e ≤ length d → moved ≡ copy_within d (at + w) e at
+    → out ≡ put (e - w) (replicate w 0) moved → out ≡ gone w at e d
 unfolding gone
-gone_made w at i e d run out h h1 h2 q o =
-    let n : at + i ≡ e - w = omega arith in
-    o ∙ ap (put (e - w) (replicate w 0)) (q ∙ ap (λ (m : ℕ). shifted w at m d) n)
+gap_closed w at e d moved out h k m o =
+    let n : e - (at + w) ≡ e - w - at = omega arith in
+    o ∙ ap (put (e - w) (replicate w 0)) (m ∙ ap (paste d at (drop (at + w) d)) n ∙ sym (shifted_paste w at (e - w) d (omega arith) (omega arith)))
 
 -- a gap that was closed
 module _ (w at e : ℕ) (d : List ℕ) (low : at + w ≤ e) (high : e ≤ length d) where
@@ -159,23 +139,7 @@ module _ (w at e : ℕ) (d : List ℕ) (low : at + w ≤ e) (high : e ≤ length
       put_after (e - w) (replicate w 0) (shifted w at (e - w) d) zeros_fit j (rw (length-replicate {A = ℕ} w 0) (omega arith))
       ∙ shifted_after w at (e - w) d (omega arith) (omega arith) j (omega arith)
 
--- a region copied out into m, and a list vs copied in, element by element from the front
-module _ (at n : ℕ) (d m : List ℕ) where
-  pub pull_none : m ≡ get at 0 d ++ drop 0 m
-  unfolding get
-  pull_none = refl
-
-  pub pull_more : (i : ℕ) (l : List ℕ) → at + n ≤ length d → length m ≡ n → i < n → l ≡ get at i d ++ drop i m → set l i (get_or d (at + i) 0) ≡ get at (i + 1) d ++ drop (i + 1) m
-  unfolding get
-  pull_more i l h1 h2 h3 e =
-      let p : set (paste m 0 (drop at d) i) (0 + i) (get_or (drop at d) i 0) ≡ paste m 0 (drop at d) (suc i) = paste-suc m 0 (drop at d) i 0 (omega arith) (rw length-drop (omega arith)) in
-      rw (e, add-one) (rw (get_or-drop at d i 0, zero-add, zero-add) at p)
-
-  pub pull_all : (i : ℕ) (l : List ℕ) → length m ≡ n → i ≤ n → n ≤ i → l ≡ get at i d ++ drop i m → l ≡ get at n d
-  pull_all i l h1 h2 h3 e =
-      let q : i ≡ n = omega arith in
-      e ∙ rw (q, drop_of_length-le m {i = n} (omega arith), append-nil) refl
-
+-- a list vs copied in, element by element from the front
 module _ (at n : ℕ) (d vs : List ℕ) where
   pub push_none : d ≡ put at (take 0 vs) d
   unfolding put

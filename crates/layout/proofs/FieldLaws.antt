@@ -1,45 +1,37 @@
 -- What a reader's way out asks, with premises as its tests and reads give them.
-use Prim.Native.Nat.{ℕ, suc, ◌+◌, ◌*◌, ◌≤◌, ◌<◌}
-use mathlib.Core.Path.{◌≡◌, refl}
-use mathlib.Core.Bool.{Bool, false, ◌&&◌}
+use Prim.Native.Nat.{ℕ, suc, ◌+◌, ◌-◌, ◌*◌, ◌≤◌, ◌<◌}
+use mathlib.Core.Path.{◌≡◌, refl, ap}
+use mathlib.Core.Bool.{Bool, true, ◌&&◌}
 use mathlib.Core.List.{List, [], ◌∷◌}
 use lib.Dec.{eqb}
-use lib.ListN.{length}
+use lib.ListN.{length, get_or, take, drop, length-take, length-drop}
 use lib.Seq.{drop-cons}
-use borrow.Author.Tests.{eq-eqb, ne_eqb}
 use native.Mathlib.Numerals.{towards_suc}
 use native.Mathlib.Omega.{arith}
 use Rattle.base.specs.Regions.{get}
-use Rattle.paper.specs.Sizes.{most_records, number_limit}
-use Rattle.paper.specs.declared.Item.TheVariants.{Statement, Ask, News}
-use Rattle.layout.specs.Offsets.{run_bytes, record_from, item_from}
-use Rattle.layout.specs.Fields.{byte_at, symbol_of, item_at}
-use Rattle.layout.specs.Given.{Reads, byte_limit}
+use Rattle.base.proofs.Ranges.{tested_none, tested_next}
+use Rattle.base.proofs.Regions.{part_at}
+use Rattle.paper.specs.Sizes.{most_records}
+use Rattle.layout.specs.Offsets.{run_bytes, record_from}
+use Rattle.layout.specs.Fields.{byte_at, symbol_of}
+use Rattle.layout.specs.Soundness.{all_are}
 
--- a byte more is to be v
-module _ (clean : Bool) (x v : ℕ) where
-  pub no_longer : (x ≡ v → ⊥) → false ≡ (eqb x v && clean)
-  no_longer h = rw (ne_eqb x v h)
+-- a loop over a part of a run: no byte is tested, and one more
+module _ (v n at : ℕ) (d : List ℕ) where
+  pub all_none : true ≡ all_are v 0 at d
+  unfolding all_are
+  all_none = tested_none (λ i. eqb (byte_at d (at + i)) v)
 
-  pub still_so : x ≡ v → clean ≡ (eqb x v && clean)
-  still_so e = rw (eq-eqb x v e)
+  pub all_next : (i : ℕ) (clean : Bool) → at + n ≤ length d → i < length (take (at + n - at) (drop at d)) → clean ≡ all_are v i at d
+      → (clean && eqb (get_or (take (at + n - at) (drop at d)) i 0) v) ≡ all_are v (i + 1) at d
+  unfolding all_are
+  all_next i clean h l e =
+      let k : i < n = omega (arith, simp (length-take, length-drop) at l) in
+      tested_next (λ j. eqb (byte_at d (at + j)) v) i _ clean (ap (λ (b : ℕ). eqb b v) (part_at at n i d k)) e
 
--- an item is told by its first byte
-module _ (d : List ℕ) (p : ℕ) where
-  pub item_statement : byte_at d (item_from p) ≡ 1
-      → Statement (byte_at d (item_from p + 1)) (byte_at d (item_from p + 2)) (byte_at d (item_from p + 3)) ≡ item_at d p
-  unfolding item_at
-  item_statement e = rw e refl
-
-  pub item_ask : byte_at d (item_from p) ≡ 2
-      → Ask (byte_at d (item_from p + 1)) (byte_at d (item_from p + 2)) (byte_at d (item_from p + 3)) ≡ item_at d p
-  unfolding item_at
-  item_ask e = rw e refl
-
-  pub item_news : (byte_at d (item_from p) ≡ 1 → ⊥) → (byte_at d (item_from p) ≡ 2 → ⊥)
-      → News (byte_at d (item_from p + 1)) (byte_at d (item_from p + 2)) (byte_at d (item_from p + 3)) ≡ item_at d p
-  unfolding item_at
-  item_news a b = simp (ne_eqb _ _ a, ne_eqb _ _ b)
+  pub all_all : (i : ℕ) (clean : Bool) → at + n ≤ length d → i ≤ length (take (at + n - at) (drop at d)) → length (take (at + n - at) (drop at d)) ≤ i
+      → clean ≡ all_are v i at d → clean ≡ all_are v n at d
+  all_all i clean h l k e = let m : i ≡ n = omega (arith, simp (length-take, length-drop) at l, simp (length-take, length-drop) at k) in rw m at e
 
 -- a region, from its first byte
 get_first : (d : List ℕ) (at n : ℕ) → at < length d → get at (suc n) d ≡ byte_at d at ∷ get (suc at) n d
@@ -52,13 +44,8 @@ get_four d at h =
     simp towards_suc
     (rw (get_first d at 3 (omega arith), get_first d (suc at) 2 (omega arith), get_first d (suc (suc at)) 1 (omega arith), get_first d (suc (suc (suc at))) 0 (omega arith)) refl)
 
--- a symbol is made of its two halves
-pub symbol_read : (d : List ℕ) (i a b c e : ℕ) → length d ≡ run_bytes → i < most_records
-    → Reads (byte_at d (record_from i)) byte_limit a
-    → Reads (byte_at d (record_from i + 1)) byte_limit b
-    → Reads (byte_at d (record_from i + 2)) byte_limit c
-    → Reads (byte_at d (record_from i + 3)) byte_limit e
-    → Reads (symbol_of d i) number_limit (a + 256 * b + 65536 * (c + 256 * e))
+-- a symbol in its four bytes
+pub symbol_read : (d : List ℕ) (i : ℕ) → length d ≡ run_bytes → i < most_records
+    → symbol_of d i ≡ byte_at d (record_from i) + byte_at d (record_from i + 1) * 256 + byte_at d (record_from i + 2) * 65536 + byte_at d (record_from i + 3) * 16777216
 unfolding symbol_of
-symbol_read d i a b c e h l pa pb pc pe =
-    record { same = rw (get_four d (record_from i) (omega arith)) (omega arith); small = omega arith }
+symbol_read d i h l = rw (get_four d (record_from i) (omega arith)) (omega arith)

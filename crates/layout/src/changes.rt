@@ -4,82 +4,54 @@ ghost use Rattle.base.specs.Regions.{put, gone};
 ghost use Rattle.paper.specs.Sizes.{most_cabinets, most_unknowns, most_records, most_parts, number_limit, room};
 ghost use Rattle.layout.specs.Offsets.{symbol_bytes, item_bytes, run_bytes};
 ghost use Rattle.layout.specs.Fields.{bytes_of, count_of};
+ghost use Rattle.layout.specs.Given.{count_limit};
 ghost use Rattle.layout.specs.Changes.{with_count, bytes_of_item, removed_at, appended, with_store, with_owner, with_pair, with_clash, cleared, with_sizes, with_record};
 
 use super::fields::{Store, count};
-use super::offsets;
+use super::offsets::{self, Run};
 use paper::{Item, sizes};
 
-// The lowest byte of n.
-fn low(n: usize) -> u8
-    ensures { result ≡ n % 256 }
+// The bytes of `from`, from `at` on.
+#[tactic(auto, using(base::proofs::Regions::part_put))]
+fn copy_in(run: &mut [u8], at: usize, from: &[u8])
+    requires { at + length from.now ≤ length run.old }
+    ensures { run.new ≡ put at from.now run.old }
 {
-    (n % 256) as u8
-}
-
-// Four bytes from `at` on.
-fn put4(run: &mut [u8], at: usize, a: u8, b: u8, c: u8, d: u8)
-    requires { at + 4 ≤ length run.old }
-    ensures { run.new ≡ put at (a ∷ b ∷ c ∷ d ∷ []) run.old }
-{
-    run[at] = a;
-    run[at + 1] = b;
-    run[at + 2] = c;
-    run[at + 3] = d;
-}
-
-// The first n bytes of `from`, from `at` on.
-fn copy_in(run: &mut [u8], at: usize, from: &[u8], n: usize)
-    requires { (at + n ≤ length run.old) × (n ≤ length from.now) }
-    ensures { run.new ≡ put at (take n from.now) run.old }
-{
-    let mut i = 0;
-    while i < n {
-        run[at + i] = from[i];
-        i += 1;
-    }
+    run[at..at + from.len()].copy_from_slice(from);
 }
 
 // n bytes v from `at` on.
+#[tactic(auto, using(crate::proofs::ChangeLaws::part_filled))]
 pub fn fill(run: &mut [u8], at: usize, n: usize, v: u8)
     requires { at + n ≤ length run.old }
     ensures { run.new ≡ put at (replicate n v) run.old }
 {
-    let mut i = 0;
-    while i < n {
-        run[at + i] = v;
-        i += 1;
-    }
+    run[at..at + n].fill(v);
 }
 
 // The item at `at` goes: the bytes after it up to `end` move down, and the place that is free becomes 0.
+#[tactic(auto, using(base::proofs::Regions::gap_closed))]
 fn close_gap(run: &mut [u8], at: usize, end: usize)
     requires { (at + item_bytes ≤ end) × (end ≤ length run.old) }
     ensures { run.new ≡ gone item_bytes at end run.old }
 {
-    let stop = end - offsets::ITEM_BYTES;
-    let n = stop - at;
-    // Counted from 0, the compiler makes one move of the whole loop.
-    let mut i = 0;
-    while i < n {
-        run[at + i] = run[at + offsets::ITEM_BYTES + i];
-        i += 1;
-    }
-    put4(run, stop, 0, 0, 0, 0);
+    run.copy_within(at + offsets::ITEM_BYTES..end, at);
+    fill(run, end - offsets::ITEM_BYTES, offsets::ITEM_BYTES, 0);
 }
 
 // The pending count becomes n.
-fn set_count(run: &mut [u8], n: usize)
-    requires { length run.old ≡ run_bytes }
+#[tactic(auto, unfolding(crate::specs::Changes::with_count))]
+fn set_count(run: &mut Run, n: usize)
+    requires { n < count_limit }
     ensures { run.new ≡ with_count n run.old }
 {
-    run[offsets::COUNT] = low(n);
-    run[offsets::COUNT + 1] = low(n / 256);
+    copy_in(run, offsets::COUNT, &(n as u16).to_le_bytes());
 }
 
 // The pending item at place p goes; later ones move up.
-pub fn remove_item(run: &mut [u8], p: usize)
-    requires { (length run.old ≡ run_bytes) × (count_of run.old ≤ room) × (p < count_of run.old) }
+#[tactic(auto, unfolding(crate::specs::Changes::removed_at))]
+pub fn remove_item(run: &mut Run, p: usize)
+    requires { (count_of run.old ≤ room) × (p < count_of run.old) }
     ensures { run.new ≡ removed_at p run.old }
 {
     let n = count(run);
@@ -101,23 +73,24 @@ fn put_item(run: &mut [u8], at: usize, j: Item)
             cabinet,
             left,
             right,
-        } => put4(run, at, 1, cabinet, left, right),
+        } => copy_in(run, at, &[1, cabinet, left, right]),
         Item::Ask {
             cabinet,
             left,
             right,
-        } => put4(run, at, 2, cabinet, left, right),
+        } => copy_in(run, at, &[2, cabinet, left, right]),
         Item::News {
             cabinet,
             left,
             right,
-        } => put4(run, at, 3, cabinet, left, right),
+        } => copy_in(run, at, &[3, cabinet, left, right]),
     }
 }
 
 // One pending item more, at the end.
-pub fn append_item(run: &mut [u8], j: Item)
-    requires { (length run.old ≡ run_bytes) × (count_of run.old < room) }
+#[tactic(auto, unfolding(crate::specs::Changes::appended))]
+pub fn append_item(run: &mut Run, j: Item)
+    requires { count_of run.old < room }
     ensures { run.new ≡ appended j run.old }
 {
     let n = count(run);
@@ -126,37 +99,35 @@ pub fn append_item(run: &mut [u8], j: Item)
 }
 
 // The store of cabinet c goes back.
-pub fn save_store(run: &mut [u8], c: usize, s: Store)
-    requires { (length run.old ≡ run_bytes) × (c < most_cabinets) }
+#[tactic(auto, unfolding(crate::specs::Changes::with_store))]
+pub fn save_store(run: &mut Run, c: usize, s: Store)
+    requires { c < most_cabinets }
     ensures { run.new ≡ with_store c s.marks run.old }
 {
-    copy_in(
-        run,
-        offsets::STORES + sizes::MOST_UNKNOWNS * c,
-        &s.marks,
-        sizes::MOST_UNKNOWNS,
-    );
+    copy_in(run, offsets::STORES + sizes::MOST_UNKNOWNS * c, &s.marks);
 }
 
 // The owner mark of unknown x becomes u.
-pub fn set_owner(run: &mut [u8], x: usize, u: u8)
-    requires { (length run.old ≡ run_bytes) × (x < most_unknowns) }
+#[tactic(auto, unfolding(crate::specs::Changes::with_owner))]
+pub fn set_owner(run: &mut Run, x: usize, u: u8)
+    requires { x < most_unknowns }
     ensures { run.new ≡ with_owner x u run.old }
 {
     run[offsets::OWNERS + x] = u;
 }
 
 // The pair x, y, greater first, is met in the memo of cabinet c.
-pub fn set_pair(run: &mut [u8], c: usize, x: usize, y: usize)
-    requires { (length run.old ≡ run_bytes) × (c < most_cabinets) × (x < most_unknowns) × (y < most_unknowns) }
+#[tactic(auto, unfolding(crate::specs::Changes::with_pair))]
+pub fn set_pair(run: &mut Run, c: usize, x: usize, y: usize)
+    requires { (c < most_cabinets) × (x < most_unknowns) × (y < most_unknowns) }
     ensures { run.new ≡ with_pair c x y run.old }
 {
     run[offsets::MEMOS + offsets::MEMO_BYTES * c + sizes::MOST_UNKNOWNS * x + y] = 1;
 }
 
 // The run clashed in cabinet c.
-pub fn set_clash(run: &mut [u8], c: u8)
-    requires { length run.old ≡ run_bytes }
+#[tactic(auto, unfolding(crate::specs::Changes::with_clash))]
+pub fn set_clash(run: &mut Run, c: u8)
     ensures { run.new ≡ with_clash c run.old }
 {
     run[offsets::CLASH] = 1;
@@ -164,8 +135,7 @@ pub fn set_clash(run: &mut [u8], c: u8)
 }
 
 // No record and no item; every mark 255, every memo byte 0.
-pub fn clear(run: &mut [u8])
-    requires { length run.old ≡ run_bytes }
+pub fn clear(run: &mut Run)
     ensures { run.new ≡ cleared }
 {
     fill(run, 0, offsets::OWNERS, 0);
@@ -174,11 +144,11 @@ pub fn clear(run: &mut [u8])
 }
 
 // S, V, R and E.
-pub fn set_sizes(run: &mut [u8], s: u8, v: u8, r: u8, e: u8)
-    requires { length run.old ≡ run_bytes }
+#[tactic(auto, unfolding(crate::specs::Changes::with_sizes))]
+pub fn set_sizes(run: &mut Run, s: u8, v: u8, r: u8, e: u8)
     ensures { run.new ≡ with_sizes s v r e run.old }
 {
-    put4(run, offsets::CABINETS, s, v, r, e);
+    copy_in(run, offsets::CABINETS, &[s, v, r, e]);
 }
 
 // A record's symbol, low byte first, and its part count n, from `at` on.
@@ -186,26 +156,17 @@ pub fn put_head(run: &mut [u8], at: usize, symbol: u64, n: u8)
     requires { at + symbol_bytes + 1 ≤ length run.old }
     ensures { run.new ≡ put at (bytes_of symbol_bytes symbol ++ (n ∷ [])) run.old }
 {
-    let a = symbol as usize;
-    let b = a / 256;
-    let c = b / 256;
-    let d = c / 256;
-    put4(run, at, low(a), low(b), low(c), low(d));
-    run[at + offsets::SYMBOL_BYTES] = n;
+    let [a, b, c, d, ..] = symbol.to_le_bytes();
+    copy_in(run, at, &[a, b, c, d, n]);
 }
 
 // Record i: its symbol, its part count and its parts; parts beyond the count stay as they were.
-pub fn set_record(
-    run: &mut [u8],
-    i: usize,
-    symbol: u64,
-    count: usize,
-    parts: [u8; sizes::MOST_PARTS],
-)
-    requires { (length run.old ≡ run_bytes) × (i < most_records) × (count ≤ most_parts) × (symbol < number_limit) }
-    ensures { run.new ≡ with_record i (record { symbol = symbol; parts = take count parts }) run.old }
+#[tactic(auto, using(crate::proofs::ChangeLaws::record_put))]
+pub fn set_record(run: &mut Run, i: usize, symbol: u64, parts: &[u8])
+    requires { (i < most_records) × (symbol < number_limit) × (length parts.now ≤ most_parts) }
+    ensures { run.new ≡ with_record i (record { symbol = symbol; parts = parts.now }) run.old }
 {
     let at = offsets::TABLE + offsets::RECORD_BYTES * i;
-    put_head(run, at, symbol, count as u8);
-    copy_in(run, at + offsets::SYMBOL_BYTES + 1, &parts, count);
+    put_head(run, at, symbol, parts.len() as u8);
+    copy_in(run, at + offsets::SYMBOL_BYTES + 1, parts);
 }

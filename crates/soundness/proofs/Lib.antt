@@ -1,4 +1,3 @@
 pub mod SoundMemos
-pub mod SoundNumbers
 pub mod SoundRegions
 pub mod SoundZeros

@@ -1,6 +1,6 @@
 -- Laws of a memo's bytes: in the row of a greater unknown those of pairs that can stand are 0 or 1, and the rest 0.
-use mathlib.Core.Path.{◌≡◌, refl, sym, ◌∙◌}
-use mathlib.Core.Bool.{Bool, true, false, not, ◌&&◌, ◌||◌, and_assoc}
+use mathlib.Core.Path.{◌≡◌, refl, sym, ap, ◌∙◌}
+use mathlib.Core.Bool.{Bool, true, false, ◌&&◌, ◌||◌, and_assoc}
 use mathlib.Core.List.{List}
 use Prim.Native.Nat.{ℕ, zero, suc, ◌+◌, ◌-◌, ◌*◌, ◌≤◌, ◌<◌}
 use native.Mathlib.Nat.{add_assoc}
@@ -8,24 +8,15 @@ use native.Mathlib.Omega.{arith}
 use lib.Dec.{ltb, leb, eqb}
 use borrow.Author.Tests.{lt-ltb, le-ltb, lt-leb, ne_eqb}
 use Rattle.base.specs.Choice.{pick, all_below}
-use Rattle.base.proofs.Ranges.{below_each, each_below}
+use Rattle.base.proofs.Ranges.{below_each, each_below, tested_none, tested_next}
+use Rattle.base.proofs.Regions.{part_at}
+use lib.ListN.{length, get_or, take, drop, length-take, length-drop}
 use Rattle.paper.specs.Sizes.{most_unknowns}
 use Rattle.layout.specs.Offsets.{memos_at, memo_bytes}
 use Rattle.layout.specs.Fields.{byte_at}
 use Rattle.layout.specs.Soundness.{all_are, zeros_at, pair_ok, memo_row_ok, memo_ok}
 use Rattle.soundness.proofs.SoundRegions.{and_then, and_stops}
 use Rattle.soundness.proofs.SoundZeros.{below_parts, below_same}
-
--- how many pairs can stand in a row
-module _ (s v c x : ℕ) where
-  pub pairs_no_cabinet : s ≤ c → 0 ≡ pick (ltb c s && ltb x v) x 0
-  pairs_no_cabinet h = rw (le-ltb c s h)
-
-  pub pairs_no_unknown : c < s → v ≤ x → 0 ≡ pick (ltb c s && ltb x v) x 0
-  pairs_no_unknown h k = rw (lt-ltb c s h, le-ltb x v k)
-
-  pub pairs_smaller : c < s → x < v → x ≡ pick (ltb c s && ltb x v) x 0
-  pairs_smaller h k = rw (lt-ltb c s h, lt-ltb x v k)
 
 -- where the row of a greater unknown starts
 abbrev pub row_from : ℕ → ℕ → ℕ
@@ -34,6 +25,17 @@ row_from c x = memos_at + memo_bytes * c + most_unknowns * x
 -- byte i of those from `at` on can stand for a pair
 abbrev pub bit_at : List ℕ → ℕ → ℕ → Bool
 bit_at d at i = leb (byte_at d (at + i)) 1
+
+-- a loop over a part of a run: no byte is tested, and one more
+module _ (n at : ℕ) (d : List ℕ) where
+  pub bits_none : true ≡ all_below 0 (bit_at d at)
+  bits_none = tested_none (bit_at d at)
+
+  pub bits_next : (i : ℕ) (clean : Bool) → at + n ≤ length d → i < length (take (at + n - at) (drop at d)) → clean ≡ all_below i (bit_at d at)
+      → (clean && leb (get_or (take (at + n - at) (drop at d)) i 0) 1) ≡ all_below (i + 1) (bit_at d at)
+  bits_next i clean h l e =
+      let k : i < n = omega (arith, simp (length-take, length-drop) at l) in
+      tested_next (bit_at d at) i _ clean (ap (λ (b : ℕ). leb b 1) (part_at at n i d k)) e
 
 bit : (b : ℕ) → (eqb b 0 || (eqb b 1 && true)) ≡ leb b 1
 bit zero = refl
@@ -78,11 +80,11 @@ module _ (s v c x n : ℕ) (d : List ℕ) (e : n ≡ pick (ltb c s && ltb x v) x
       )
 
   module _ (b : Bool) (h : b ≡ all_below n (bit_at d (row_from c x))) (l : n ≤ x) (k : x < most_unknowns) where
-    pub row_stops : not b ≡ true → false ≡ memo_row_ok s v d c x
+    pub row_stops : b ≡ false → b ≡ memo_row_ok s v d c x
     unfolding memo_row_ok
     row_stops t = and_stops b _ _ h t ∙ sym (row_parts (row_from c x) most_unknowns (omega arith))
 
-    pub row_rest : (z : Bool) → not b ≡ false → z ≡ zeros_at (most_unknowns - n) (row_from c x + n) d → z ≡ memo_row_ok s v d c x
+    pub row_rest : (z : Bool) → b ≡ true → z ≡ zeros_at (most_unknowns - n) (row_from c x + n) d → z ≡ memo_row_ok s v d c x
     unfolding memo_row_ok
     row_rest z t g = and_then b _ _ h z t g ∙ sym (row_parts (row_from c x) most_unknowns (omega arith))
 

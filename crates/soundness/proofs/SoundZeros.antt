@@ -1,20 +1,19 @@
 -- Laws of a loop with no way out, and of bytes that must be 0: a region whose rows from some number on must be 0 asks one test of
 -- them all.
-use mathlib.Core.Path.{◌≡◌, refl, sym, ◌∙◌}
-use mathlib.Core.Bool.{Bool, true, ◌&&◌, and_assoc, and_comm}
+use mathlib.Core.Path.{◌≡◌, refl, sym, ap, ◌∙◌}
+use mathlib.Core.Bool.{Bool, true, false, ◌&&◌, and_assoc, and_comm}
 use mathlib.Core.List.{List}
 use Prim.Native.Nat.{ℕ, zero, suc, ◌+◌, ◌-◌, ◌*◌, ◌≤◌, ◌<◌}
 use native.Mathlib.Nat.{add_assoc, add-zero, add-suc, mul-zero, mul-suc, mul-add}
 use native.Mathlib.Omega.{arith}
 use lib.Dec.{eqb}
-use borrow.Author.Tests.{le-ltb}
+use borrow.Author.Tests.{lt-ltb, le-ltb}
 use Rattle.base.specs.Choice.{all_below}
-use Rattle.base.proofs.Ranges.{tested_none, below_all}
+use Rattle.base.proofs.Ranges.{tested_none}
 use Rattle.paper.specs.Sizes.{most_records, room}
 use Rattle.layout.specs.Offsets.{record_bytes, item_bytes, table_at, pending_at, record_from, item_from}
 use Rattle.layout.specs.Fields.{byte_at}
 use Rattle.layout.specs.Soundness.{all_are, zeros_at, parts_ok, record_ok, records_ok, item_ok, place_ok, items_ok}
-use Rattle.soundness.proofs.SoundNumbers.{chosen_below}
 
 -- all below a number: those below a lesser one, and those after them; and two tests that say the same
 below_cut : (f : ℕ → Bool) (a b : ℕ) → all_below (a + b) f ≡ (all_below b (λ i. f (a + i)) && all_below a f)
@@ -43,50 +42,43 @@ module _ (at : ℕ) (d : List ℕ) where
   zeros_cut a b = simp add_assoc (below_cut (λ i. eqb (byte_at d (at + i)) 0) a b)
 
 -- tests of rows of w bytes from `at` on, of which those from n on must be 0
-module _ (f : ℕ → Bool) (w at n : ℕ) (d : List ℕ) (z : (i : ℕ) → n ≤ i → f i ≡ zeros_at w (at + w * i) d)
-    (h : all_below n f ≡ true) where
-  rows : (k : ℕ) → all_below (n + k) f ≡ zeros_at (w * k) (at + w * n) d
+module _ (f : ℕ → Bool) (w at n : ℕ) (d : List ℕ) (z : (i : ℕ) → n ≤ i → f i ≡ zeros_at w (at + w * i) d) where
+  rows : all_below n f ≡ true → (k : ℕ) → all_below (n + k) f ≡ zeros_at (w * k) (at + w * n) d
   unfolding all_below
-  rows zero = rw (add-zero, mul-zero) (h ∙ zeros_none (at + w * n) d)
-  rows (suc k) =
+  rows h zero = rw (add-zero, mul-zero) (h ∙ zeros_none (at + w * n) d)
+  rows h (suc k) =
       let e : at + w * (n + k) ≡ at + w * n + w * k = omega (arith, mul-add w n k) in
-      rw (add-suc, mul-suc, zeros_cut (at + w * n) d (w * k) w, rows k, z (n + k) (omega arith), e)
+      rw (add-suc, mul-suc, zeros_cut (at + w * n) d (w * k) w, rows h k, z (n + k) (omega arith), e)
 
-  pub rest_zeros : (m : ℕ) → n ≤ m → all_below m f ≡ zeros_at (w * (m - n)) (at + w * n) d
-  rest_zeros m l = let e : n + (m - n) ≡ m = omega arith in rw e at (rows (m - n))
+  rest_zeros : all_below n f ≡ true → (m : ℕ) → n ≤ m → all_below m f ≡ zeros_at (w * (m - n)) (at + w * n) d
+  rest_zeros h m l = let e : n + (m - n) ≡ m = omega arith in rw e at (rows h (m - n))
+
+  -- at once: the rows below n, and zeros
+  pub rest_split : (m : ℕ) → n ≤ m → all_below m f ≡ (all_below n f && zeros_at (w * (m - n)) (at + w * n) d)
+  rest_split m l = go (all_below n f) refl
+    where
+      go : (b : Bool) → all_below n f ≡ b → all_below m f ≡ (b && zeros_at (w * (m - n)) (at + w * n) d)
+      go true e = rest_zeros e m l
+      go false e = below_parts f m n l ∙ rw e
 
 -- records from R on, and pending items from the count on
-module _ (v r : ℕ) (d : List ℕ) where
-  pub record_parts : (i : ℕ) (b : Bool) → b ≡ parts_ok v i d → i < r → b ≡ record_ok v r d i
-  unfolding record_ok
-  record_parts i b e h = chosen_below b _ _ i r h e
+pub records_split : (v r : ℕ) (d : List ℕ) → r ≤ most_records
+    → records_ok v r d ≡ (all_below r (λ i. parts_ok v i d) && zeros_at (record_bytes * (most_records - r)) (record_from r) d)
+unfolding records_ok record_ok
+records_split v r d l =
+    rest_split (record_ok v r d) record_bytes table_at r d (λ i k. rw (le-ltb i r k)) most_records l
+    ∙ ap (λ (b : Bool). b && zeros_at (record_bytes * (most_records - r)) (record_from r) d)
+    (below_same (record_ok v r d) (λ i. parts_ok v i d) r (λ i k. rw (lt-ltb i r k)))
 
-  pub records_rest : (i : ℕ) (b : Bool)
-      → b ≡ zeros_at (record_bytes * (most_records - r)) (record_from r) d
-      → all_below i (record_ok v r d) ≡ true
-      → i ≤ r
-      → r ≤ i
-      → r ≤ most_records
-      → b ≡ records_ok v r d
-  unfolding records_ok record_ok
-  records_rest i b e h i₁ i₂ l =
-      e ∙ sym (rest_zeros (record_ok v r d) record_bytes table_at r d (λ i k. rw (le-ltb i r k)) (below_all _ r i i₁ i₂ h) most_records l)
+-- the item at a place, by its four bytes
+abbrev pub item_at_ok : ℕ → ℕ → ℕ → List ℕ → ℕ → Bool
+item_at_ok s v r d p =
+    item_ok s v r (byte_at d (item_from p)) (byte_at d (item_from p + 1)) (byte_at d (item_from p + 2)) (byte_at d (item_from p + 3))
 
-module _ (s v r n : ℕ) (d : List ℕ) where
-  pub place_item : (p : ℕ) (b : Bool)
-      → b ≡ item_ok s v r (byte_at d (item_from p)) (byte_at d (item_from p + 1)) (byte_at d (item_from p + 2)) (byte_at d (item_from p + 3))
-      → p < n
-      → b ≡ place_ok s v r n d p
-  unfolding place_ok
-  place_item p b e h = chosen_below b _ _ p n h e
-
-  pub items_rest : (p : ℕ) (b : Bool)
-      → b ≡ zeros_at (item_bytes * (room - n)) (item_from n) d
-      → all_below p (place_ok s v r n d) ≡ true
-      → p ≤ n
-      → n ≤ p
-      → n ≤ room
-      → b ≡ items_ok s v r n d
-  unfolding items_ok place_ok
-  items_rest p b e h p₁ p₂ l =
-      e ∙ sym (rest_zeros (place_ok s v r n d) item_bytes pending_at n d (λ p k. rw (le-ltb p n k)) (below_all _ n p p₁ p₂ h) room l)
+pub items_split : (s v r n : ℕ) (d : List ℕ) → n ≤ room
+    → items_ok s v r n d ≡ (all_below n (item_at_ok s v r d) && zeros_at (item_bytes * (room - n)) (item_from n) d)
+unfolding items_ok place_ok
+items_split s v r n d l =
+    rest_split (place_ok s v r n d) item_bytes pending_at n d (λ p k. rw (le-ltb p n k)) room l
+    ∙ ap (λ (b : Bool). b && zeros_at (item_bytes * (room - n)) (item_from n) d)
+    (below_same (place_ok s v r n d) (item_at_ok s v r d) n (λ p k. rw (lt-ltb p n k)))

@@ -2,390 +2,273 @@
 // name in specs/Soundness.antt. The sizes are tested first, so that no sum of them can overflow.
 #![tactic(auto)]
 
-ghost use Rattle.std.specs.Prelude.{◌≡◌, ◌&&◌, ◌+◌, ◌<◌, ◌≤◌, ltb, leb, eqb, length};
+ghost use Rattle.std.specs.Prelude.{◌≡◌, true, false, ◌&&◌, ◌+◌, ◌<◌, ◌≤◌, ltb, leb, eqb, length, MatchOption};
 ghost use Rattle.base.specs.Choice.{pick, all_below};
 ghost use Rattle.paper.specs.Sizes.{most_cabinets, most_unknowns, most_records, room};
-ghost use Rattle.layout.specs.Offsets.{run_bytes, item_from};
-ghost use Rattle.layout.specs.Fields.{byte_at};
-ghost use Rattle.layout.specs.Soundness.{zeros_at, lesser, clash_ok, sizes_ok, parts_ok, records_ok, owner_ok, owners_ok, mark_ok, store_ok, stores_ok, memo_row_ok, memo_ok, memos_ok, item_ok, items_ok, regions_ok, sound_bytes};
+ghost use Rattle.layout.specs.Offsets.{cabinets_at, unknowns_at, records_at, statements_at, item_from};
+ghost use Rattle.layout.specs.Fields.{byte_at, count_of};
+ghost use Rattle.layout.specs.Soundness.{lesser, clash_ok, sizes_ok, parts_ok, records_ok, owner_ok, owners_ok, mark_ok, store_ok, stores_ok, memo_row_ok, memo_ok, memos_ok, item_ok, items_ok, regions_ok, sound_bytes};
 
+use layout::{Mark, Run};
 use paper::sizes;
 
-// The marks that are no entry, as numbers.
-const NOTHING: usize = layout::NOTHING as usize;
-
-const INITIATED: usize = layout::INITIATED as usize;
-
-// A byte as a number.
-fn wide(x: u8) -> usize
-    ensures { (result ≡ x) × (result < 256) }
-{
-    x as usize
-}
-
-// Whether x is 0 or 1, and the bytes before it were.
-fn still_bit(clean: bool, x: u8) -> bool
-    ensures { result ≡ (leb x 1 && clean) }
-{
-    if x > 1 {
-        return false;
-    }
-    clean
-}
-
-// Whether the n bytes from `at` on are 0 or 1, in a loop like that of `layout::all_are`.
-fn bits_at(run: &[u8], n: usize, at: usize) -> bool
+// Whether the n bytes from `at` on are 0 or 1, in a loop like that of `layout::all_are`, of which it is no instance: one function of
+// both would ask of its test, in four lines of clauses, what each loop says in one.
+fn bits_at(run: &Run, n: usize, at: usize) -> bool
     requires { at + n ≤ length run.now }
     ensures { result ≡ all_below n (λ i. leb (byte_at run.now (at + i)) 1) }
 {
     let mut clean = true;
-    let mut i = 0;
-    while i < n {
-        clean = still_bit(clean, run[at + i]);
-        i += 1;
+    for b in &run[at..at + n] {
+        clean &= *b <= 1;
     }
     clean
 }
 
-// Whether u is an entry less than the unknown x: a record, or an unknown with a smaller number.
-fn lesser(v: usize, r: usize, u: usize, x: usize) -> bool
-    requires { (v ≤ most_unknowns) × (r ≤ most_records) }
-    ensures { result ≡ lesser v r u x }
-{
-    if x >= v {
-        return false;
-    }
-    if u < v {
-        return u < x;
-    }
-    u < v + r
+// S, V, R and the pending count, in their ranges.
+#[derive(Clone, Copy)]
+struct Sizes {
+    cabinets: usize,
+    unknowns: usize,
+    records: usize,
+    items: usize,
+    ghost in_range: { (unknowns ≤ most_unknowns) × (records ≤ most_records) × (items ≤ room) },
 }
 
-// Whether bytes 0 and 1 are sound: running and 0, or clashed and a cabinet below S.
-fn clash_ok(s: usize, a: usize, c: usize) -> bool
-    ensures { result ≡ clash_ok s a c }
-{
-    if a == 0 {
-        return c == 0;
+impl Sizes {
+    // The sizes of a run, if they and E are in their ranges.
+    #[tactic(auto, using(std::proofs::lemmas::Bool::Decides::nat_tests), unfolding(layout::specs::Soundness::sizes_ok))]
+    fn of(run: &Run) -> Option<Sizes>
+        ensures { MatchOption result (sizes_ok (byte_at run.now cabinets_at) (byte_at run.now unknowns_at) (byte_at run.now records_at) (byte_at run.now statements_at) (count_of run.now) ≡ false) (λ z. (sizes_ok (byte_at run.now cabinets_at) (byte_at run.now unknowns_at) (byte_at run.now records_at) (byte_at run.now statements_at) (count_of run.now) ≡ true) × (z.cabinets ≡ byte_at run.now cabinets_at) × (z.unknowns ≡ byte_at run.now unknowns_at) × (z.records ≡ byte_at run.now records_at) × (z.items ≡ count_of run.now)) }
+    {
+        let cabinets = layout::cabinets(run);
+        let unknowns = layout::unknowns(run);
+        let records = layout::records(run);
+        let items = layout::count(run);
+        if 1 <= cabinets
+            && cabinets <= sizes::MOST_CABINETS
+            && unknowns <= sizes::MOST_UNKNOWNS
+            && records <= sizes::MOST_RECORDS
+            && layout::statements(run) <= sizes::MOST_STATEMENTS
+            && items <= sizes::ROOM
+        {
+            return Some(Sizes {
+                cabinets,
+                unknowns,
+                records,
+                items,
+            });
+        }
+        None
     }
-    if a != 1 {
-        return false;
-    }
-    c < s
-}
 
-// Whether S, V, R, E and the pending count are in their ranges.
-fn sizes_ok(s: usize, v: usize, r: usize, e: usize, n: usize) -> bool
-    ensures { result ≡ sizes_ok s v r e n }
-{
-    if s < 1 {
-        return false;
-    }
-    if s > sizes::MOST_CABINETS {
-        return false;
-    }
-    if v > sizes::MOST_UNKNOWNS {
-        return false;
-    }
-    if r > sizes::MOST_RECORDS {
-        return false;
-    }
-    if e > sizes::MOST_STATEMENTS {
-        return false;
-    }
-    n <= sizes::ROOM
-}
-
-// Whether p can stand at part place k of a record with n parts: an unknown below the count, else 0.
-fn part_ok(v: usize, n: usize, k: usize, p: usize) -> bool
-    ensures { result ≡ pick (ltb k n) (ltb p v) (eqb p 0) }
-{
-    if k < n {
-        return p < v;
-    }
-    p == 0
-}
-
-// Whether the part count and the four part places of record i, one below R, are sound.
-fn parts_ok(run: &[u8], v: usize, i: usize) -> bool
-    requires { (length run.now ≡ run_bytes) × (i < most_records) }
-    ensures { result ≡ parts_ok v i run.now }
-{
-    let n = wide(run[layout::TABLE + layout::RECORD_BYTES * i + layout::SYMBOL_BYTES]);
-    if n > sizes::MOST_PARTS {
-        return false;
-    }
-    let mut k = 0;
-    while k < sizes::MOST_PARTS {
-        let p = wide(run[layout::TABLE + layout::RECORD_BYTES * i + layout::SYMBOL_BYTES + 1 + k]);
-        if !part_ok(v, n, k, p) {
+    // Whether u is an entry less than the unknown x: a record, or an unknown with a smaller number.
+    #[tactic(auto, using(std::proofs::lemmas::Bool::Decides::nat_tests), unfolding(layout::specs::Soundness::lesser))]
+    fn lesser(self, u: usize, x: usize) -> bool
+        ensures { result ≡ lesser self.unknowns self.records u x }
+    {
+        if x >= self.unknowns {
             return false;
         }
-        k += 1;
+        if u < self.unknowns {
+            u < x
+        } else {
+            u < self.unknowns + self.records
+        }
     }
-    true
-}
 
-// Whether all 64 records are sound: the parts of those below R; the bytes from there on are 0.
-fn records_ok(run: &[u8], v: usize, r: usize) -> bool
-    requires { (length run.now ≡ run_bytes) × (r ≤ most_records) }
-    ensures { result ≡ records_ok v r run.now }
-{
-    let mut i = 0;
-    while i < r {
-        if !parts_ok(run, v, i) {
+    // Whether bytes 0 and 1 are sound: running and 0, or clashed and a cabinet below S.
+    #[tactic(auto, using(std::proofs::lemmas::Bool::Decides::nat_tests), unfolding(layout::specs::Soundness::clash_ok))]
+    fn clash_ok(self, clash: usize, cabinet: usize) -> bool
+        ensures { result ≡ clash_ok self.cabinets clash cabinet }
+    {
+        match clash {
+            0 => cabinet == 0,
+            1 => cabinet < self.cabinets,
+            _ => false,
+        }
+    }
+
+    // Whether p can stand at part place k of a record with n parts: an unknown below the count, else 0.
+    fn part_ok(self, n: usize, k: usize, p: usize) -> bool
+        ensures { result ≡ pick (ltb k n) (ltb p self.unknowns) (eqb p 0) }
+    {
+        if k < n { p < self.unknowns } else { p == 0 }
+    }
+
+    // Whether the part count and the four part places of record i are sound.
+    fn parts_ok(self, run: &Run, i: usize) -> bool
+        requires { i < most_records }
+        ensures { result ≡ parts_ok self.unknowns i run.now }
+    {
+        let n = layout::part_count(run, i);
+        n <= sizes::MOST_PARTS
+            && (0..sizes::MOST_PARTS).all(|k| self.part_ok(n, k, layout::part_at(run, i, k)))
+    }
+
+    // Whether all 64 records are sound: the parts of those below R; the bytes from there on are 0.
+    fn records_ok(self, run: &Run) -> bool
+        ensures { result ≡ records_ok self.unknowns self.records run.now }
+    {
+        (0..self.records).all(|i| self.parts_ok(run, i))
+            && layout::all_are(
+                run,
+                layout::RECORD_BYTES * (sizes::MOST_RECORDS - self.records),
+                layout::TABLE + layout::RECORD_BYTES * self.records,
+                0,
+            )
+    }
+
+    // Whether the owner mark of x is sound: none, or an entry less than x.
+    #[tactic(auto, using(std::proofs::lemmas::Bool::Decides::nat_tests), unfolding(layout::specs::Soundness::owner_ok))]
+    fn owner_ok(self, run: &Run, x: usize) -> bool
+        requires { x < most_unknowns }
+        ensures { result ≡ owner_ok self.unknowns self.records run.now x }
+    {
+        match layout::owner_at(run, x) {
+            None => true,
+            Some(u) => self.lesser(u, x),
+        }
+    }
+
+    // Whether all 32 owner marks are sound.
+    fn owners_ok(self, run: &Run) -> bool
+        ensures { result ≡ owners_ok self.unknowns self.records run.now }
+    {
+        (0..sizes::MOST_UNKNOWNS).all(|x| self.owner_ok(run, x))
+    }
+
+    // Whether the byte m can stand for x in the store of cabinet c: nothing, or, below S, initiated for an unknown or an entry less
+    // than x.
+    #[tactic(auto, using(std::proofs::lemmas::Bool::Decides::nat_tests), unfolding(layout::specs::Soundness::mark_ok, layout::specs::Soundness::lesser))]
+    fn mark_ok(self, c: usize, x: usize, m: u8) -> bool
+        ensures { result ≡ pick (ltb c self.cabinets) (mark_ok self.unknowns self.records x m) (eqb m 255) }
+    {
+        match Mark::from(m) {
+            Mark::Nothing => true,
+            Mark::Initiated => c < self.cabinets && x < self.unknowns,
+            Mark::Entry(u) => c < self.cabinets && self.lesser(usize::from(u), x),
+        }
+    }
+
+    // Whether the 32 marks of cabinet c's store are sound.
+    fn store_ok(self, run: &Run, c: usize) -> bool
+        requires { c < most_cabinets }
+        ensures { result ≡ store_ok self.cabinets self.unknowns self.records run.now c }
+    {
+        let at = layout::STORES + sizes::MOST_UNKNOWNS * c;
+        (0..sizes::MOST_UNKNOWNS).all(|x| self.mark_ok(c, x, run[at + x]))
+    }
+
+    // Whether all eight stores are sound.
+    fn stores_ok(self, run: &Run) -> bool
+        ensures { result ≡ stores_ok self.cabinets self.unknowns self.records run.now }
+    {
+        (0..sizes::MOST_CABINETS).all(|c| self.store_ok(run, c))
+    }
+
+    // How many bytes for the greater unknown x in cabinet c's memo can be 1: one for each smaller unknown, or none if there is no
+    // such cabinet or no such unknown.
+    fn pairs_of(self, c: usize, x: usize) -> usize
+        ensures { (result ≡ pick (ltb c self.cabinets && ltb x self.unknowns) x 0) × (result ≤ x) }
+    {
+        if c < self.cabinets && x < self.unknowns {
+            x
+        } else {
+            0
+        }
+    }
+
+    // Whether the 32 bytes for the greater unknown x in cabinet c's memo are sound: 0 or 1 where a pair can stand, then 0.
+    #[tactic(auto, using(crate::proofs::SoundMemos::row_stops, crate::proofs::SoundMemos::row_rest))]
+    fn memo_row_ok(self, run: &Run, c: usize, x: usize) -> bool
+        requires { (c < most_cabinets) × (x < most_unknowns) }
+        ensures { result ≡ memo_row_ok self.cabinets self.unknowns run.now c x }
+    {
+        let at = layout::MEMOS + layout::MEMO_BYTES * c + sizes::MOST_UNKNOWNS * x;
+        let n = self.pairs_of(c, x);
+        bits_at(run, n, at) && layout::all_are(run, sizes::MOST_UNKNOWNS - n, at + n, 0)
+    }
+
+    // Whether cabinet c's memo is sound. Most memos have no pair, which one test shows.
+    fn memo_ok(self, run: &Run, c: usize) -> bool
+        requires { c < most_cabinets }
+        ensures { result ≡ memo_ok self.cabinets self.unknowns run.now c }
+    {
+        let at = layout::MEMOS + layout::MEMO_BYTES * c;
+        layout::all_are(run, layout::MEMO_BYTES, at, 0)
+            || (0..sizes::MOST_UNKNOWNS).all(|x| self.memo_row_ok(run, c, x))
+    }
+
+    // Whether all eight memos are sound.
+    fn memos_ok(self, run: &Run) -> bool
+        ensures { result ≡ memos_ok self.cabinets self.unknowns run.now }
+    {
+        (0..sizes::MOST_CABINETS).all(|c| self.memo_ok(run, c))
+    }
+
+    // Whether an item of kind k at cabinet c, with left a and right b, is sound: a statement of two entries, or an ask or a news
+    // with an unknown at left and a lesser entry at right.
+    #[tactic(auto, using(std::proofs::lemmas::Bool::Decides::nat_tests), unfolding(layout::specs::Soundness::item_ok))]
+    fn item_ok(self, k: u8, c: usize, a: usize, b: usize) -> bool
+        ensures { result ≡ item_ok self.cabinets self.unknowns self.records k c a b }
+    {
+        if c >= self.cabinets {
             return false;
         }
-        i += 1;
-    }
-    layout::all_are(
-        run,
-        layout::RECORD_BYTES * (sizes::MOST_RECORDS - r),
-        layout::TABLE + layout::RECORD_BYTES * r,
-        0,
-    )
-}
-
-// Whether the owner mark of x is sound: 255, or an entry less than x.
-fn owner_ok(run: &[u8], v: usize, r: usize, x: usize) -> bool
-    requires { (length run.now ≡ run_bytes) × (v ≤ most_unknowns) × (r ≤ most_records) × (x < most_unknowns) }
-    ensures { result ≡ owner_ok v r run.now x }
-{
-    let u = wide(run[layout::OWNERS + x]);
-    if u == NOTHING {
-        return true;
-    }
-    lesser(v, r, u, x)
-}
-
-// Whether all 32 owner marks are sound.
-fn owners_ok(run: &[u8], v: usize, r: usize) -> bool
-    requires { (length run.now ≡ run_bytes) × (v ≤ most_unknowns) × (r ≤ most_records) }
-    ensures { result ≡ owners_ok v r run.now }
-{
-    let mut x = 0;
-    while x < sizes::MOST_UNKNOWNS {
-        if !owner_ok(run, v, r, x) {
-            return false;
+        match k {
+            1 => a < self.unknowns + self.records && b < self.unknowns + self.records,
+            2 | 3 => self.lesser(b, a),
+            _ => false,
         }
-        x += 1;
     }
-    true
-}
 
-// Whether m can stand for x in the store of a cabinet below S: 255, 254 for an unknown, or an entry less than x.
-fn mark_ok(v: usize, r: usize, x: usize, m: usize) -> bool
-    requires { (v ≤ most_unknowns) × (r ≤ most_records) }
-    ensures { result ≡ mark_ok v r x m }
-{
-    if m == NOTHING {
-        return true;
+    // Whether the item at place p is sound.
+    fn item_at_ok(self, run: &Run, p: usize) -> bool
+        requires { p < room }
+        ensures { result ≡ item_ok self.cabinets self.unknowns self.records (byte_at run.now (item_from p)) (byte_at run.now (item_from p + 1)) (byte_at run.now (item_from p + 2)) (byte_at run.now (item_from p + 3)) }
+    {
+        let at = layout::PENDING + layout::ITEM_BYTES * p;
+        let c = usize::from(run[at + 1]);
+        let a = usize::from(run[at + 2]);
+        let b = usize::from(run[at + 3]);
+        self.item_ok(run[at], c, a, b)
     }
-    if m == INITIATED {
-        return x < v;
-    }
-    lesser(v, r, m, x)
-}
 
-// Whether m can stand for x in the store of cabinet c: 255 alone from S on.
-fn held_ok(s: usize, v: usize, r: usize, c: usize, x: usize, m: usize) -> bool
-    requires { (v ≤ most_unknowns) × (r ≤ most_records) }
-    ensures { result ≡ pick (ltb c s) (mark_ok v r x m) (eqb m 255) }
-{
-    if c < s {
-        return mark_ok(v, r, x, m);
+    // Whether all 12,672 places of pending items are sound: the items below the count; the bytes from there on are 0.
+    fn items_ok(self, run: &Run) -> bool
+        ensures { result ≡ items_ok self.cabinets self.unknowns self.records self.items run.now }
+    {
+        (0..self.items).all(|p| self.item_at_ok(run, p))
+            && layout::all_are(
+                run,
+                layout::ITEM_BYTES * (sizes::ROOM - self.items),
+                layout::PENDING + layout::ITEM_BYTES * self.items,
+                0,
+            )
     }
-    m == NOTHING
-}
 
-// Whether the 32 marks of cabinet c's store are sound.
-fn store_ok(run: &[u8], s: usize, v: usize, r: usize, c: usize) -> bool
-    requires { (length run.now ≡ run_bytes) × (v ≤ most_unknowns) × (r ≤ most_records) × (c < most_cabinets) }
-    ensures { result ≡ store_ok s v r run.now c }
-{
-    let mut x = 0;
-    while x < sizes::MOST_UNKNOWNS {
-        let m = wide(run[layout::STORES + sizes::MOST_UNKNOWNS * c + x]);
-        if !held_ok(s, v, r, c, x, m) {
-            return false;
-        }
-        x += 1;
+    // Whether the regions that depend on the sizes are sound.
+    #[tactic(auto, unfolding(layout::specs::Soundness::regions_ok))]
+    fn regions_ok(self, run: &Run) -> bool
+        ensures { result ≡ regions_ok self.cabinets self.unknowns self.records self.items run.now }
+    {
+        self.clash_ok(layout::clash_byte(run), layout::clash_cabinet(run))
+            && self.records_ok(run)
+            && self.owners_ok(run)
+            && self.stores_ok(run)
+            && self.memos_ok(run)
+            && self.items_ok(run)
     }
-    true
-}
-
-// Whether all eight stores are sound.
-fn stores_ok(run: &[u8], s: usize, v: usize, r: usize) -> bool
-    requires { (length run.now ≡ run_bytes) × (v ≤ most_unknowns) × (r ≤ most_records) }
-    ensures { result ≡ stores_ok s v r run.now }
-{
-    let mut c = 0;
-    while c < sizes::MOST_CABINETS {
-        if !store_ok(run, s, v, r, c) {
-            return false;
-        }
-        c += 1;
-    }
-    true
-}
-
-// How many bytes for the greater unknown x in cabinet c's memo can be 1: one for each smaller unknown, or none if there is no such
-// cabinet or no such unknown.
-fn pairs_of(s: usize, v: usize, c: usize, x: usize) -> usize
-    ensures { (result ≡ pick (ltb c s && ltb x v) x 0) × (result ≤ x) }
-{
-    if c >= s {
-        return 0;
-    }
-    if x < v {
-        return x;
-    }
-    0
-}
-
-// Whether the 32 bytes for the greater unknown x in cabinet c's memo are sound: 0 or 1 where a pair can stand, then 0.
-fn memo_row_ok(run: &[u8], s: usize, v: usize, c: usize, x: usize) -> bool
-    requires { (length run.now ≡ run_bytes) × (c < most_cabinets) × (x < most_unknowns) }
-    ensures { result ≡ memo_row_ok s v run.now c x }
-{
-    let at = layout::MEMOS + layout::MEMO_BYTES * c + sizes::MOST_UNKNOWNS * x;
-    let n = pairs_of(s, v, c, x);
-    if !bits_at(run, n, at) {
-        return false;
-    }
-    layout::all_are(run, sizes::MOST_UNKNOWNS - n, at + n, 0)
-}
-
-// Whether cabinet c's memo is sound. Most memos have no pair, which one test shows.
-fn memo_ok(run: &[u8], s: usize, v: usize, c: usize) -> bool
-    requires { (length run.now ≡ run_bytes) × (c < most_cabinets) }
-    ensures { result ≡ memo_ok s v run.now c }
-{
-    if layout::all_are(
-        run,
-        layout::MEMO_BYTES,
-        layout::MEMOS + layout::MEMO_BYTES * c,
-        0,
-    ) {
-        return true;
-    }
-    let mut x = 0;
-    while x < sizes::MOST_UNKNOWNS {
-        if !memo_row_ok(run, s, v, c, x) {
-            return false;
-        }
-        x += 1;
-    }
-    true
-}
-
-// Whether all eight memos are sound.
-fn memos_ok(run: &[u8], s: usize, v: usize) -> bool
-    requires { length run.now ≡ run_bytes }
-    ensures { result ≡ memos_ok s v run.now }
-{
-    let mut c = 0;
-    while c < sizes::MOST_CABINETS {
-        if !memo_ok(run, s, v, c) {
-            return false;
-        }
-        c += 1;
-    }
-    true
-}
-
-// Whether an item of kind k at cabinet c, with left a and right b, is sound: a statement of two entries, or an ask or a news
-// with an unknown at left and a lesser entry at right.
-fn item_ok(s: usize, v: usize, r: usize, k: usize, c: usize, a: usize, b: usize) -> bool
-    requires { (v ≤ most_unknowns) × (r ≤ most_records) }
-    ensures { result ≡ item_ok s v r k c a b }
-{
-    if c >= s {
-        return false;
-    }
-    if k == 1 {
-        if a >= v + r {
-            return false;
-        }
-        return b < v + r;
-    }
-    if k == 2 {
-        return lesser(v, r, b, a);
-    }
-    if k != 3 {
-        return false;
-    }
-    lesser(v, r, b, a)
-}
-
-// Whether the item at place p is sound.
-fn item_at_ok(run: &[u8], s: usize, v: usize, r: usize, p: usize) -> bool
-    requires { (length run.now ≡ run_bytes) × (v ≤ most_unknowns) × (r ≤ most_records) × (p < room) }
-    ensures { result ≡ item_ok s v r (byte_at run.now (item_from p)) (byte_at run.now (item_from p + 1)) (byte_at run.now (item_from p + 2)) (byte_at run.now (item_from p + 3)) }
-{
-    let at = layout::PENDING + layout::ITEM_BYTES * p;
-    let k = wide(run[at]);
-    let c = wide(run[at + 1]);
-    let a = wide(run[at + 2]);
-    let b = wide(run[at + 3]);
-    item_ok(s, v, r, k, c, a, b)
-}
-
-// Whether all 12,672 places of pending items are sound: the items below the count n; the bytes from there on are 0.
-fn items_ok(run: &[u8], s: usize, v: usize, r: usize, n: usize) -> bool
-    requires { (length run.now ≡ run_bytes) × (v ≤ most_unknowns) × (r ≤ most_records) × (n ≤ room) }
-    ensures { result ≡ items_ok s v r n run.now }
-{
-    let mut p = 0;
-    while p < n {
-        if !item_at_ok(run, s, v, r, p) {
-            return false;
-        }
-        p += 1;
-    }
-    layout::all_are(
-        run,
-        layout::ITEM_BYTES * (sizes::ROOM - n),
-        layout::PENDING + layout::ITEM_BYTES * n,
-        0,
-    )
-}
-
-// Whether the regions that depend on the sizes are sound.
-fn regions_ok(run: &[u8], s: usize, v: usize, r: usize, n: usize) -> bool
-    requires { (length run.now ≡ run_bytes) × (v ≤ most_unknowns) × (r ≤ most_records) × (n ≤ room) }
-    ensures { result ≡ regions_ok s v r n run.now }
-{
-    if !clash_ok(s, layout::clash_byte(run), layout::clash_cabinet(run)) {
-        return false;
-    }
-    if !records_ok(run, v, r) {
-        return false;
-    }
-    if !owners_ok(run, v, r) {
-        return false;
-    }
-    if !stores_ok(run, s, v, r) {
-        return false;
-    }
-    if !memos_ok(run, s, v) {
-        return false;
-    }
-    items_ok(run, s, v, r, n)
 }
 
 // Whether the run is sound. Sizes out of range are refused before any sum of them is taken.
-pub fn sound(run: &[u8]) -> bool
-    requires { length run.now ≡ run_bytes }
+#[tactic(auto, unfolding(layout::specs::Soundness::sound_bytes))]
+pub fn sound(run: &Run) -> bool
     ensures { result ≡ sound_bytes run.now }
 {
-    let s = layout::cabinets(run);
-    let v = layout::unknowns(run);
-    let r = layout::records(run);
-    let e = layout::statements(run);
-    let n = layout::count(run);
-    if !sizes_ok(s, v, r, e, n) {
-        return false;
+    match Sizes::of(run) {
+        Some(sizes) => sizes.regions_ok(run),
+        None => false,
     }
-    regions_ok(run, s, v, r, n)
 }

@@ -1,13 +1,9 @@
--- `bits_at` meets its contract. The loop has tested i bytes, and `clean` says whether they are 0 or 1.
-use borrow.Author.Rules.{rules}
-use Rattle.base.proofs.Ranges.{tested_all, tested_next, tested_none}
+-- `bits_at`: the loop has tested the bytes below its index, and `clean` says whether they are 0 or 1.
+use Rattle.soundness.proofs.SoundMemos.{bits_none, bits_next}
 use Rattle.soundness.proofs.bits_at.Goals as goal
 
-pub loop-i-init : goal.loop-i-init
-loop-i-init c = (search rules, search tested_none)
+pub loop-b-init : goal.loop-b-init
+loop-b-init c = bits_none c.args.n _ _
 
-pub loop-i-preserved : goal.loop-i-preserved
-loop-i-preserved c = (search rules, search tested_next)
-
-pub returns : goal.returns
-returns c = search tested_all
+pub loop-b-preserved : goal.loop-b-preserved
+loop-b-preserved c = search bits_next

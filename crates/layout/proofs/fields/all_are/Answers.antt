@@ -1,17 +1,12 @@
--- `all_are` meets its contract. The loop has tested i bytes, and `clean` says whether they are v.
-use borrow.Author.Rules.{rules}
-use Rattle.base.proofs.Ranges.{tested_all, tested_next, tested_none}
-use Rattle.layout.specs.Soundness.{all_are}
+-- `all_are`: the loop has tested the bytes below its index, and `clean` says whether they are v.
+use Rattle.layout.proofs.FieldLaws.{all_none, all_next, all_all}
 use Rattle.layout.proofs.fields.all_are.Goals as goal
 
-pub loop-i-init : goal.loop-i-init
-unfolding all_are
-loop-i-init c = (search rules, search tested_none)
+pub loop-b-init : goal.loop-b-init
+loop-b-init c = all_none _ c.args.n _ _
 
-pub loop-i-preserved : goal.loop-i-preserved
-unfolding all_are
-loop-i-preserved c = (search rules, search tested_next)
+pub loop-b-preserved : goal.loop-b-preserved
+loop-b-preserved c = search all_next
 
 pub returns : goal.returns
-unfolding all_are
-returns c = search tested_all
+returns c = search all_all
