@@ -6,12 +6,14 @@ use native.Mathlib.Nat.{sub-zero}
 use native.Mathlib.Omega.{arith}
 use lib.ListN.{drop}
 use lib.Seq.{drop-drop}
-use Rattle.paper.specs.Files.{Form, times, Read, got, fault, reading}
-use Rattle.paper.proofs.Forms.{fault_got}
-use Rattle.reading.specs.declared.End.{End}
-use Rattle.reading.specs.declared.End.TheVariants.{At, Refused}
-use Rattle.reading.specs.Reads.{read_to}
-use Rattle.reading.proofs.Ends.{ended_at, ended_refused}
+use Rattle.std.specs.Prelude.{Result, Ok, Err, IsOk}
+use Rattle.paper.specs.Refusals.{refusal_number}
+use Rattle.paper.specs.Numbers.{Read, got, fault}
+use Rattle.paper.specs.Files.{Form, times, reading}
+use Rattle.paper.specs.declared.refused.Fault.{Fault}
+use Rattle.paper.specs.declared.Found.{Found}
+use Rattle.paper.proofs.NumberCodec.{fault_got}
+use Rattle.reading.specs.Reads.{read_as}
 use Rattle.reading.proofs.Times.{after, first_read, first_refused}
 
 -- the first value of those that were read, and the rest
@@ -38,27 +40,27 @@ module _ {A : Type 0} (m : Form A) (f : List ℕ) (n : ℕ) (l : List A) (last :
     unfolding LeftFrom
     none_left g = let z : n - i ≡ 0 = omega arith in cc (rw z at h)
 
-    module _ (g : i < n) (y : End) (a : A) (e : read_to y a ≡ reading m f here) where
+    module _ {B : Type 0} (q : B → A) (g : i < n) where
       one_left : n - i ≡ suc (n - (i + 1))
       one_left = omega arith
 
-      pub not_refused : (k p : ℕ) → y ≡ Refused k p → ⊥
+      pub never_refused : (x : Result (Found B) Fault) → read_as q x ≡ reading m f here → IsOk x
       unfolding LeftFrom
-      not_refused k p d =
-          fault_got
-          (sym (first_refused m f (n - (i + 1)) here k p (ended_refused a y (reading m f here) e k p d)) ∙ rw one_left at h)
+      never_refused (Ok y) e = refl
+      never_refused (Err y) e =
+          absurd (fault_got (sym (first_refused m f (n - (i + 1)) here (refusal_number y.refusal) y.at (sym e)) ∙ rw one_left at h))
 
-      module _ (to : ℕ) (d : y ≡ At to) where
-        first_left : (drop i l ≡ a ∷ drop 1 (drop i l)) × (reading (times (n - (i + 1)) m) f to ≡ got (drop 1 (drop i l)) last)
+      module _ (y : Found B) (e : got (q y.value) y.next ≡ reading m f here) where
+        first_left : (drop i l ≡ q y.value ∷ drop 1 (drop i l)) × (reading (times (n - (i + 1)) m) f y.next ≡ got (drop 1 (drop i l)) last)
         unfolding LeftFrom
         first_left =
-            after_got a (reading (times (n - (i + 1)) m) f to) (drop i l) last
-            (sym (first_read m f (n - (i + 1)) here a to (ended_at a y (reading m f here) e to d)) ∙ rw one_left at h)
+            after_got (q y.value) (reading (times (n - (i + 1)) m) f y.next) (drop i l) last
+            (sym (first_read m f (n - (i + 1)) here (q y.value) y.next (sym e)) ∙ rw one_left at h)
 
         -- the value read is the i-th
-        pub value_again : drop i l ≡ a ∷ drop (i + 1) l
+        pub value_again : drop i l ≡ q y.value ∷ drop (i + 1) l
         value_again = rw drop-drop at first_left.0
 
-        pub left_again : LeftFrom (i + 1) to
+        pub left_again : LeftFrom (i + 1) y.next
         unfolding LeftFrom
         left_again = rw drop-drop at first_left.1

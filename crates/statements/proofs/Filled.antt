@@ -1,32 +1,34 @@
 -- Laws of filling a run from a file that was read: the turns of the two loops, and the ways out.
 use Prim.Native.Nat.{ℕ, suc, ◌+◌, ◌≤◌, ◌<◌}
-use mathlib.Core.Path.{◌≡◌, refl, sym, ap, ◌∙◌}
+use mathlib.Core.Path.{◌≡◌, refl, sym, ap, subst, ◌∙◌}
 use mathlib.Core.List.{List, [], ◌∷◌, map}
 use native.Mathlib.Omega.{arith}
 use lib.ListN.{length, take, drop, drop_of_length-le}
 use lib.Seq.{length-take-le}
+use Rattle.std.specs.Prelude.{Result, Ok, IsOk}
 use Rattle.paper.specs.Sizes.{most_records, most_parts, number_limit, room}
+use Rattle.paper.specs.Numbers.{Read, got, fault}
 use Rattle.paper.specs.Runs.{Statement, as_item}
+use Rattle.paper.specs.Files.{Form, times, record_form, reading}
 use Rattle.paper.specs.declared.Item.TheVariants.{Statement as statement}
-use Rattle.paper.specs.Files.{Form, times, record_form, Read, got, fault, reading}
+use Rattle.paper.specs.declared.refused.Fault.{Fault}
+use Rattle.paper.specs.declared.Found.{Found}
 use Rattle.layout.specs.Offsets.{run_bytes}
 use Rattle.layout.specs.Fields.{count_of}
 use Rattle.layout.specs.Changes.{appended, appended_all, with_record, with_records}
 use Rattle.layout.proofs.Views.{appended_long, appended_count}
-use Rattle.reading.specs.declared.End.{End}
-use Rattle.reading.specs.declared.End.TheVariants.{At, Refused}
 use Rattle.reading.specs.declared.RecordRead.{RecordRead}
 use Rattle.reading.specs.declared.StatementRead.{StatementRead}
-use Rattle.reading.specs.Reads.{read_to, next_of, WasRead, list_of, RecordFound, statement_form_of, statement_read}
+use Rattle.reading.specs.Reads.{read_as, next_of, WasRead, list_of, record_of, RecordFound, statement_form_of, statement_of}
 use Rattle.reading.proofs.Times.{times_count}
 use Rattle.reading.proofs.RecordFinds.{symbol_small}
-use Rattle.statements.proofs.Again.{LeftFrom, all_left, not_refused, value_again, left_again}
+use Rattle.statements.proofs.Again.{LeftFrom, all_left, never_refused, value_again, left_again}
 use Rattle.statements.proofs.Loaded.{written_long}
 
 -- what was read
 pub was_read : {A : Type 0} (x : Read (List A)) → WasRead x → x ≡ got (list_of x) (next_of x)
 was_read (got l to) h = refl
-was_read (fault k p) h = absurd (let z : ◌≡◌ {A = ℕ} 0 1 = cc in let y : ⊥ = omega arith in y)
+was_read (fault k p) h = absurd h
 
 -- values read, of which i were put into a run in turn by `more`: what is left to put gives what all give
 module _ {A : Type 0} (more : ℕ → List A → List ℕ → List ℕ) (one : ℕ → A → List ℕ → List ℕ)
@@ -45,30 +47,27 @@ module _ {A : Type 0} (more : ℕ → List A → List ℕ → List ℕ) (one : �
   pub none_filled : WasRead (reading (times n m) f at) → FilledTo 0 at d₀
   none_filled h = record { left = all_left m f n values last at (was_read (reading (times n m) f at) h); kept = refl }
 
-  module _ (r : WasRead (reading (times n m) f at)) (i here : ℕ) (d : List ℕ) (h : FilledTo i here d) where
-    pub all_filled : n ≤ i → d ≡ more 0 values d₀
-    all_filled g =
+  module _ (i here : ℕ) (d : List ℕ) (h : FilledTo i here d) where
+    pub all_filled : WasRead (reading (times n m) f at) → n ≤ i → d ≡ more 0 values d₀
+    all_filled r g =
         let c : length values ≡ n = times_count m f n at values last (was_read (reading (times n m) f at) r) in
         let e : drop i values ≡ [] = drop_of_length-le values {i = i} (omega arith) in
         sym (none i d) ∙ ap (λ (l : List A). more i l d) (sym e) ∙ h.kept
 
-    module _ (g : i < n) (y : End) (a : A) (e : read_to y a ≡ reading m f here) where
-      pub never_refused : (k p : ℕ) → y ≡ Refused k p → ⊥
-      never_refused k p c = not_refused m f n values last i here h.left g y a e k p c
-
-      pub one_filled : (to : ℕ) → y ≡ At to → (d' : List ℕ) → d' ≡ one i a d → FilledTo (i + 1) to d'
-      one_filled to c d' p =
-          let v = value_again m f n values last i here h.left g y a e to c in
-          let s : suc i ≡ i + 1 = omega arith in
-          record {
-            left = left_again m f n values last i here h.left g y a e to c;
-            kept =
-                ap (λ (k : ℕ). more k (drop (i + 1) values) d') (sym s)
-                ∙ ap (more (suc i) (drop (i + 1) values)) p
-                ∙ sym (first i a (drop (i + 1) values) d)
-                ∙ ap (λ (l : List A). more i l d) (sym v)
-                ∙ h.kept;
-          }
+    pub one_filled : {B : Type 0} (q : B → A) → i < n → (y : Found B) → got (q y.value) y.next ≡ reading m f here
+        → (d' : List ℕ) → d' ≡ one i (q y.value) d → FilledTo (i + 1) y.next d'
+    one_filled q g y e d' p =
+        let v = value_again m f n values last i here h.left q g y e in
+        let s : suc i ≡ i + 1 = omega arith in
+        record {
+          left = left_again m f n values last i here h.left q g y e;
+          kept =
+              ap (λ (k : ℕ). more k (drop (i + 1) values) d') (sym s)
+              ∙ ap (more (suc i) (drop (i + 1) values)) p
+              ∙ sym (first i (q y.value) (drop (i + 1) values) d)
+              ∙ ap (λ (l : List A). more i l d) (sym v)
+              ∙ h.kept;
+        }
 
 -- the records of a table
 module _ (v n : ℕ) (f : List ℕ) (at : ℕ) (d₀ : List ℕ) where
@@ -82,35 +81,34 @@ module _ (v n : ℕ) (f : List ℕ) (at : ℕ) (d₀ : List ℕ) where
   pub no_record_yet : length d₀ ≡ run_bytes → WasRead (reading (times n (record_form v)) f at) → RecordsTo 0 at d₀
   no_record_yet l h = record { filled = none_filled with_records with_record (λ i d. refl) (λ i a l d. refl) (record_form v) n f at d₀ h; long = l }
 
-  module _ (r : WasRead (reading (times n (record_form v)) f at)) (i here : ℕ) (d : List ℕ) (h : RecordsTo i here d) where
+  module _ (i here : ℕ) (d : List ℕ) (h : RecordsTo i here d) where
     pub records_long : length d ≡ run_bytes
     records_long = h.long
 
-    pub records_filled : n ≤ i → d ≡ with_records 0 (list_of (reading (times n (record_form v)) f at)) d₀
-    records_filled g = all_filled with_records with_record (λ i d. refl) (λ i a l d. refl) (record_form v) n f at d₀ r i here d h.filled g
+    pub records_filled : WasRead (reading (times n (record_form v)) f at) → n ≤ i → d ≡ with_records 0 (list_of (reading (times n (record_form v)) f at)) d₀
+    records_filled r g = all_filled with_records with_record (λ i d. refl) (λ i a l d. refl) (record_form v) n f at d₀ i here d h.filled r g
 
-    module _ (g : i < n) (x : RecordRead) (e : RecordFound (record_form v) f here x) where
-      pub record_never_refused : (k p : ℕ) → x.end ≡ Refused k p → d ≡ with_records 0 (list_of (reading (times n (record_form v)) f at)) d₀
-      record_never_refused k p c =
-          absurd
-          (never_refused with_records with_record (λ i d. refl) (λ i a l d. refl) (record_form v) n f at d₀ r i here d h.filled g
-          x.end _ e.read k p c)
+    module _ (g : i < n) (x : Result (Found RecordRead) Fault) (e : RecordFound (record_form v) f here x) where
+      pub record_again : IsOk x
+      record_again = never_refused (record_form v) f n _ _ i here h.filled.left record_of g x e.read
 
-      pub few_parts : x.count ≤ most_parts
-      few_parts = e.few
+      module _ (y : Found RecordRead) (o : x ≡ Ok y) where
+        found : RecordFound (record_form v) f here (Ok y)
+        found = subst (RecordFound (record_form v) f here) o e
 
-      module _ (to : ℕ) (c : x.end ≡ At to) where
-        pub small_symbol : x.symbol < number_limit
-        small_symbol = symbol_small v f here x e to c
+        pub few_parts : y.value.count ≤ most_parts
+        few_parts = found.places.few
 
-        pub record_filled : n ≤ most_records → (d' : List ℕ) → d' ≡ with_record i (record { symbol = x.symbol; parts = take x.count x.parts }) d
-            → RecordsTo (i + 1) to d'
+        pub small_symbol : y.value.symbol < number_limit
+        small_symbol = symbol_small v f here y found
+
+        pub record_filled : n ≤ most_records → (d' : List ℕ) → d' ≡ with_record i (record { symbol = y.value.symbol; parts = take y.value.count y.value.parts }) d
+            → RecordsTo (i + 1) y.next d'
         record_filled w d' p =
-            let t : length (take x.count x.parts) ≤ most_parts = omega (arith, length-take-le x.count x.parts (omega (arith, e.few, e.long)), e.few) in
+            let t : length (take y.value.count y.value.parts) ≤ most_parts =
+            omega (arith, length-take-le y.value.count y.value.parts (omega (arith, found.places.few, found.places.long)), found.places.few) in
             record {
-              filled =
-                  one_filled with_records with_record (λ i d. refl) (λ i a l d. refl) (record_form v) n f at d₀ r i here d h.filled g
-                  x.end _ e.read to c d' p;
+              filled = one_filled with_records with_record (λ i d. refl) (λ i a l d. refl) (record_form v) n f at d₀ i here d h.filled record_of g y found.read d' p;
               long = ap length p ∙ written_long i _ d h.long (omega arith) t ∙ h.long;
             }
 
@@ -138,31 +136,29 @@ module _ (s k n : ℕ) (f : List ℕ) (at : ℕ) (d₀ : List ℕ) where
         count = omega arith;
       }
 
-  module _ (r : WasRead (reading (times n (statement_form_of s k)) f at)) (i here : ℕ) (d : List ℕ) (h : StatementsTo i here d) where
+  module _ (i here : ℕ) (d : List ℕ) (h : StatementsTo i here d) where
     pub statements_long : length d ≡ run_bytes
     statements_long = h.long
 
-    pub statements_filled : n ≤ i → d ≡ appended_all (map as_item (list_of (reading (times n (statement_form_of s k)) f at))) d₀
-    statements_filled g = all_filled all_appended one_appended (λ i d. refl) (λ i a l d. refl) (statement_form_of s k) n f at d₀ r i here d h.filled g
+    pub statements_filled : WasRead (reading (times n (statement_form_of s k)) f at) → n ≤ i
+        → d ≡ appended_all (map as_item (list_of (reading (times n (statement_form_of s k)) f at))) d₀
+    statements_filled r g = all_filled all_appended one_appended (λ i d. refl) (λ i a l d. refl) (statement_form_of s k) n f at d₀ i here d h.filled r g
 
     module _ (g : i < n) where
       pub room_for_one : count_of d₀ + n ≤ room → count_of d < room
       room_for_one w = omega (arith, h.count)
 
-      module _ (x : StatementRead) (e : statement_read x ≡ reading (statement_form_of s k) f here) where
-        pub statement_never_refused : (q p : ℕ) → x.end ≡ Refused q p → d ≡ appended_all (map as_item (list_of (reading (times n (statement_form_of s k)) f at))) d₀
-        statement_never_refused q p c =
-            absurd
-            (never_refused all_appended one_appended (λ i d. refl) (λ i a l d. refl) (statement_form_of s k) n f at d₀ r i here d h.filled g
-            x.end _ e q p c)
+      module _ (x : Result (Found StatementRead) Fault) (e : read_as statement_of x ≡ reading (statement_form_of s k) f here) where
+        pub statement_again : IsOk x
+        statement_again = never_refused (statement_form_of s k) f n _ _ i here h.filled.left statement_of g x e
 
-        pub statement_filled : count_of d₀ + n ≤ room → (to : ℕ) → x.end ≡ At to → (d' : List ℕ) → d' ≡ appended (statement x.cabinet x.left x.right) d
-            → StatementsTo (i + 1) to d'
-        statement_filled w to c d' p =
+        pub statement_filled : count_of d₀ + n ≤ room → (y : Found StatementRead) → x ≡ Ok y
+            → (d' : List ℕ) → d' ≡ appended (statement y.value.cabinet y.value.left y.value.right) d → StatementsTo (i + 1) y.next d'
+        statement_filled w y o d' p =
             record {
               filled =
-                  one_filled all_appended one_appended (λ i d. refl) (λ i a l d. refl) (statement_form_of s k) n f at d₀ r i here d h.filled g
-                  x.end _ e to c d' p;
-              long = ap length p ∙ appended_long d (statement x.cabinet x.left x.right) h.long (room_for_one w);
-              count = ap count_of p ∙ appended_count d (statement x.cabinet x.left x.right) h.long (room_for_one w) ∙ omega (arith, h.count);
+                  one_filled all_appended one_appended (λ i d. refl) (λ i a l d. refl) (statement_form_of s k) n f at d₀ i here d h.filled
+                  statement_of g y (rw o at e) d' p;
+              long = ap length p ∙ appended_long d (statement y.value.cabinet y.value.left y.value.right) h.long (room_for_one w);
+              count = ap count_of p ∙ appended_count d (statement y.value.cabinet y.value.left y.value.right) h.long (room_for_one w) ∙ omega (arith, h.count);
             }

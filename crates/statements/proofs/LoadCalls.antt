@@ -4,24 +4,27 @@ use mathlib.Core.Path.{◌≡◌, refl, ap, ◌∙◌}
 use mathlib.Core.List.{List, map}
 use native.Mathlib.Omega.{arith}
 use borrow.Author.Tests.{eq-eqb, ne_eqb}
+use Rattle.std.specs.Prelude.{Result, Err}
 use lib.ListN.{length, length-map}
 use mir.Syntax.{w8, w64}
 use mir.Val.{Fits}
 use Rattle.paper.specs.Sizes.{most_cabinets, most_unknowns, most_records, room}
-use Rattle.paper.specs.Refusals.{wrong_length}
+use Rattle.paper.specs.Refusals.{wrong_length, refusal_number}
+use Rattle.paper.specs.declared.refused.Fault.{Fault}
 use Rattle.paper.specs.Tables.{Record}
 use Rattle.paper.specs.Runs.{Statement, as_item}
 use Rattle.paper.specs.Reached.{FileOk}
-use Rattle.paper.specs.Files.{times, record_form, File, Read, got, fault, reading, read_file}
+use Rattle.paper.specs.Numbers.{Read, got, fault}
+use Rattle.paper.specs.Files.{times, record_form, File, reading, read_file}
+use Rattle.paper.proofs.NumberCodec.{fault_got}
 use Rattle.layout.specs.Offsets.{run_bytes}
 use Rattle.layout.specs.Fields.{count_of}
 use Rattle.layout.specs.Changes.{cleared, with_sizes, with_records, appended_all}
-use Rattle.reading.specs.declared.End.TheVariants.{At, Refused}
 use Rattle.reading.specs.declared.Checked.{Checked}
 use Rattle.reading.specs.Reads.{WasRead, list_of, statement_form_of, checked_of, checked_file}
 use Rattle.reading.proofs.FileAccepted.{Accepted, accepted}
 use Rattle.statements.specs.Loads.{loaded_bytes}
-use Rattle.statements.specs.Writes.{answer, loaded_read, load_bytes}
+use Rattle.statements.specs.Writes.{answer, load_answer, loaded_read, load_bytes}
 use Rattle.statements.proofs.ReadValues.{file_ok}
 use Rattle.statements.proofs.Loaded.{sized, tabled, few_items}
 
@@ -34,78 +37,74 @@ module _ (s d : List ℕ) where
   unfolding load_bytes
   load_wrong_length h = rw (ne_eqb (length d) run_bytes h) refl
 
-  module _ (c : Checked) (e : c ≡ checked_file s) where
-    pub load_refused : length d ≡ run_bytes → (k p : ℕ) → c.end ≡ Refused k p → answer k p d ≡ load_bytes s d
-    unfolding load_bytes checked_file
-    load_refused h k p g = rw (eq-eqb (length d) run_bytes h) (go (read_file s) e)
-      where
-        go : (x : Read File) → c ≡ checked_of s x → answer k p d ≡ loaded_read d x
-        go (got f to) e = absurd (let y : c.end ≡ At to = ap (λ (b : Checked). b.end) e in let z : ◌≡◌ {A = ℕ} 0 1 = cc in let n : ⊥ = omega arith in n)
-        go (fault j q) e =
-            let y : c.end ≡ Refused j q = ap (λ (b : Checked). b.end) e in
-            let a : j ≡ k = cc in
-            let b : q ≡ p = cc in
-            rw (a, b) refl
+  pub load_refused : length d ≡ run_bytes → (d' : List ℕ) → d' ≡ d → (r : Result (Unit {0}) Fault) (y : Fault) → r ≡ Err y
+      → fault (refusal_number y.refusal) y.at ≡ checked_file s → load_answer r d' ≡ load_bytes s d
+  unfolding load_bytes checked_file
+  load_refused h d' o r y x e = rw (eq-eqb (length d) run_bytes h, o, x) (go (read_file s) e)
+    where
+      go : (x : Read File) → fault (refusal_number y.refusal) y.at ≡ checked_of s x → answer (refusal_number y.refusal) y.at d ≡ loaded_read d x
+      go (got f to) e = absurd (fault_got e)
+      go (fault j q) e = cc
 
-    module _ (to : ℕ) (g : c.end ≡ At to) where
-      known : Accepted s c
-      known = accepted s c e to g
+  module _ (c : Checked) (to : ℕ) (e : got c to ≡ checked_file s) where
+    known : Accepted s c
+    known = accepted s c to e
 
-      ok : FileOk known.file.table known.file.statements
-      ok = file_ok s known.file known.last known.read
+    ok : FileOk known.file.table known.file.statements
+    ok = file_ok s known.file known.last known.read
 
-      pub load_cabinets_few : c.cabinets ≤ most_cabinets
-      load_cabinets_few = known.ok.cabinets
+    pub load_cabinets_few : c.cabinets ≤ most_cabinets
+    load_cabinets_few = known.ok.cabinets
 
-      pub load_unknowns_few : c.unknowns ≤ most_unknowns
-      load_unknowns_few = known.ok.unknowns
+    pub load_unknowns_few : c.unknowns ≤ most_unknowns
+    load_unknowns_few = known.ok.unknowns
 
-      pub load_records_few : c.records ≤ most_records
-      load_records_few = known.ok.count
+    pub load_records_few : c.records ≤ most_records
+    load_records_few = known.ok.count
 
-      pub load_entries_few : c.unknowns + c.records ≤ most_unknowns + most_records
-      load_entries_few = omega (arith, load_unknowns_few, load_records_few)
+    pub load_entries_few : c.unknowns + c.records ≤ most_unknowns + most_records
+    load_entries_few = omega (arith, load_unknowns_few, load_records_few)
 
-      pub cabinets_byte : Fits w8 c.cabinets
-      cabinets_byte = omega (arith, load_cabinets_few)
+    pub cabinets_byte : Fits w8 c.cabinets
+    cabinets_byte = omega (arith, load_cabinets_few)
 
-      pub unknowns_byte : Fits w8 c.unknowns
-      unknowns_byte = omega (arith, load_unknowns_few)
+    pub unknowns_byte : Fits w8 c.unknowns
+    unknowns_byte = omega (arith, load_unknowns_few)
 
-      pub records_byte : Fits w8 c.records
-      records_byte = omega (arith, load_records_few)
+    pub records_byte : Fits w8 c.records
+    records_byte = omega (arith, load_records_few)
 
-      pub statements_byte : Fits w8 c.statements
-      statements_byte = omega (arith, known.few)
+    pub statements_byte : Fits w8 c.statements
+    statements_byte = omega (arith, known.few)
 
-      pub load_entries_fit : Fits w64 (c.unknowns + c.records)
-      load_entries_fit = omega (arith, load_entries_few)
+    pub load_entries_fit : Fits w64 (c.unknowns + c.records)
+    load_entries_fit = omega (arith, load_entries_few)
 
-      pub table_was_read : WasRead (reading (times c.records (record_form c.unknowns)) s c.table)
-      table_was_read = rw known.records_read refl
+    pub table_was_read : WasRead (reading (times c.records (record_form c.unknowns)) s c.table)
+    table_was_read = rw known.records_read tt
 
-      pub list_was_read : WasRead (reading (times c.statements (statement_form_of c.cabinets (c.unknowns + c.records))) s c.list)
-      list_was_read = rw known.statements_read refl
+    pub list_was_read : WasRead (reading (times c.statements (statement_form_of c.cabinets (c.unknowns + c.records))) s c.list)
+    list_was_read = rw known.statements_read tt
 
-      module _ (d1 d2 d3 : List ℕ) (e1 : d1 ≡ cleared) (e2 : d2 ≡ with_sizes c.cabinets c.unknowns c.records c.statements d1)
-          (e3 : d3 ≡ with_records 0 (list_of (reading (times c.records (record_form c.unknowns)) s c.table)) d2) where
-        table_filled : d3 ≡ tabled known.file ok
-        unfolding sized
-        table_filled =
-            e3 ∙ ap (λ (l : Read (List Record)). with_records 0 (list_of l) d2) known.records_read
-            ∙ ap (with_records 0 known.file.table.records)
-            (e2 ∙ same_sizes d1 known.cabinets known.unknowns known.records known.statements e1)
+    module _ (d1 d2 d3 : List ℕ) (e1 : d1 ≡ cleared) (e2 : d2 ≡ with_sizes c.cabinets c.unknowns c.records c.statements d1)
+        (e3 : d3 ≡ with_records 0 (list_of (reading (times c.records (record_form c.unknowns)) s c.table)) d2) where
+      table_filled : d3 ≡ tabled known.file ok
+      unfolding sized
+      table_filled =
+          e3 ∙ ap (λ (l : Read (List Record)). with_records 0 (list_of l) d2) known.records_read
+          ∙ ap (with_records 0 known.file.table.records)
+          (e2 ∙ same_sizes d1 known.cabinets known.unknowns known.records known.statements e1)
 
-        pub load_room : count_of d3 + c.statements ≤ room
-        load_room =
-            omega (arith, ap count_of table_filled, few_items known.file ok, length-map known.file.statements as_item, known.statements)
+      pub load_room : count_of d3 + c.statements ≤ room
+      load_room =
+          omega (arith, ap count_of table_filled, few_items known.file ok, length-map known.file.statements as_item, known.statements)
 
-        pub load_done : length d ≡ run_bytes → (d4 : List ℕ)
-            → d4 ≡ appended_all (map as_item (list_of (reading (times c.statements (statement_form_of c.cabinets (c.unknowns + c.records))) s c.list))) d3
-            → answer 0 0 d4 ≡ load_bytes s d
-        unfolding load_bytes loaded_bytes sized
-        load_done h d4 e4 =
-            rw (eq-eqb (length d) run_bytes h, known.read)
-            (ap (answer 0 0)
-            (e4 ∙ ap (λ (l : Read (List Statement)). appended_all (map as_item (list_of l)) d3) known.statements_read
-            ∙ ap (appended_all (map as_item known.file.statements)) table_filled))
+      pub load_done : length d ≡ run_bytes → (d4 : List ℕ)
+          → d4 ≡ appended_all (map as_item (list_of (reading (times c.statements (statement_form_of c.cabinets (c.unknowns + c.records))) s c.list))) d3
+          → answer 0 0 d4 ≡ load_bytes s d
+      unfolding load_bytes loaded_bytes sized
+      load_done h d4 e4 =
+          rw (eq-eqb (length d) run_bytes h, known.read)
+          (ap (answer 0 0)
+          (e4 ∙ ap (λ (l : Read (List Statement)). appended_all (map as_item (list_of l)) d3) known.statements_read
+          ∙ ap (appended_all (map as_item known.file.statements)) table_filled))

@@ -3,13 +3,11 @@ use Prim.Native.Nat.{ℕ}
 use mathlib.Core.Path.{◌≡◌, refl, subst}
 use mathlib.Core.List.{List, [], ◌++◌}
 use Rattle.numbers.proofs.Reading.{number_next}
-use Rattle.paper.specs.Numbers.{ranged_at, number_bytes}
+use Rattle.paper.specs.Numbers.{Read, got, fault, ranged_at, number_bytes}
 use Rattle.paper.specs.Reached.{FileOk}
-use Rattle.paper.specs.Files.{Form, end, next, file_form, File, got, onward, reading, read_file}
-use Rattle.paper.specs.declared.Num.{Num}
-use Rattle.paper.specs.declared.Num.TheVariants.{Got, Refused}
-use Rattle.paper.proofs.Forms.{fault_got, Spells, done, more}
-use Rattle.paper.proofs.NumberCodec.{Ranged, inside, ranged}
+use Rattle.paper.specs.Files.{Form, end, next, file_form, File, onward, reading, read_file}
+use Rattle.paper.proofs.Forms.{Spells, done, more}
+use Rattle.paper.proofs.NumberCodec.{fault_got, Ranged, inside, ranged}
 use Rattle.paper.proofs.RoundTrip.{file_codec}
 use Rattle.reading.proofs.FileAccepted.{ended_got}
 
@@ -19,12 +17,12 @@ spelt s (end x) at a to e = let v : x ≡ a = cc in ([], subst (Spells (end x) [
 spelt s (next low below k g) at a to e =
     go (ranged_at low below k s at) (λ n t d. spelt s (g n) t a to d) (ranged low below k s at (ranged_at low below k s at) refl) e
   where
-    go : (x : Num) → ((n t : ℕ) → reading (g n) s t ≡ got a to → (b : List ℕ) × Spells (g n) b a) → Ranged low below k s at x
+    go : (x : Read ℕ) → ((n t : ℕ) → reading (g n) s t ≡ got a to → (b : List ℕ) × Spells (g n) b a) → Ranged low below k s at x
         → onward x (λ n t. reading (g n) s t) ≡ got a to → (b : List ℕ) × Spells (next low below k g) b a
-    go (Got n t) ih (inside d l h) e =
+    go (got n t) ih (inside d l h) e =
         let i = ih n t e in
         (number_bytes n ++ i.0, more n l h (number_next s at n t d).2 i.1 refl)
-    go (Refused j p) ih v e = absurd (fault_got e)
+    go (fault j p) ih v e = absurd (fault_got e)
 
 pub file_ok : (s : List ℕ) (f : File) (to : ℕ) → read_file s ≡ got f to → FileOk f.table f.statements
 unfolding read_file

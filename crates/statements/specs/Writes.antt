@@ -6,9 +6,10 @@ use Rattle.base.specs.Puts.{PutFrom}
 use Rattle.paper.specs.Sizes.{longest_file}
 use Rattle.paper.specs.Refusals.{wrong_length, not_sound, not_as_loaded, refusal_number}
 use Rattle.paper.specs.declared.refused.Refusal.{Refusal}
-use Rattle.paper.specs.Numbers.{number_bytes}
+use Rattle.paper.specs.declared.refused.Fault.{Fault}
+use Rattle.paper.specs.Numbers.{Read, got, fault}
 use Rattle.paper.specs.Runs.{Statement}
-use Rattle.paper.specs.Files.{File, Read, got, fault, file_bytes, padded_file, read_file}
+use Rattle.paper.specs.Files.{File, file_bytes, padded_file, read_file}
 use Rattle.layout.specs.Offsets.{clash_at, cabinets_at, unknowns_at, records_at, statements_at, owners_at, memos_at, pending_at, run_bytes, item_from}
 use Rattle.layout.specs.Fields.{byte_at, count_of, table_of}
 use Rattle.layout.specs.Soundness.{all_are, sound_bytes}
@@ -33,10 +34,6 @@ statement_at d p = record { cabinet = byte_at d (item_from p + 1); left = byte_a
 -- the file that an as-loaded run is
 unfoldable pub file_of : List ℕ → File
 file_of d = record { table = table_of d; statements = list_from (statement_at d) (byte_at d statements_at) 0 }
-
--- "S, V, R", with which its table starts
-unfoldable pub sizes_bytes : List ℕ → List ℕ
-sizes_bytes d = number_bytes (byte_at d cabinets_at) ++ (number_bytes (byte_at d unknowns_at) ++ number_bytes (byte_at d records_at))
 
 -- room for the bytes bs where the writer stands
 pub record HasRoom (bs : List ℕ) (w : Writer) : Type 0 where
@@ -64,6 +61,11 @@ written_bytes d m =
     (pick (as_loaded d) (answer 0 (length (file_bytes (file_of d))) (padded_file (file_of d))) (answer not_as_loaded 0 m))
     (answer not_sound 0 m))
     (answer wrong_length 0 m)
+
+-- a loader's result as its answer
+abbrev pub load_answer : Result (Unit {0}) Fault → List ℕ → Answer
+load_answer (Ok x) d = answer 0 0 d
+load_answer (Err e) d = answer (refusal_number e.refusal) e.at d
 
 -- "Loading: 12, then the first fault in reading order, with the position where the faulty number starts"; "A refused call
 -- leaves every lent byte"

@@ -4,5 +4,5 @@
 mod loading; // loading.rt: the file into a run
 mod writing; // writing.rt: a run back into its file
 
-pub use loading::{LoadReply, load};
+pub use loading::load;
 pub use writing::write;

@@ -7,83 +7,58 @@ ghost use Rattle.layout.specs.Offsets.{run_bytes};
 ghost use Rattle.layout.specs.Fields.{count_of};
 ghost use Rattle.layout.specs.Changes.{with_records, appended_all};
 ghost use Rattle.reading.specs.Reads.{WasRead, list_of, statement_form_of};
-ghost use Rattle.statements.specs.Writes.{answer, load_bytes};
+ghost use Rattle.statements.specs.Writes.{load_answer, load_bytes};
 
-use paper::{Item, refusal};
-use reading::{End, check_file, read_record, read_statement};
+use layout::Run;
+use paper::{Fault, Item, Refusal};
+use reading::{check_file, read_record, read_statement};
 
-// The reply to a load: 0 for done, else the refusal; and the position of the fault, else 0.
-#[repr(C)]
-#[derive(Clone, Copy)]
-pub struct LoadReply {
-    pub number: usize,
-    pub position: usize,
-}
-
-// The `count` records at `at` of the file, with v unknowns, as the run's first ones.
-fn fill_records(run: &mut [u8], file: &[u8], at: usize, v: usize, count: usize)
-    requires { (length run.old ≡ run_bytes) × (v ≤ most_unknowns) × (count ≤ most_records) × WasRead (reading (times count (record_form v)) file.now at) }
+// The `count` records at `at` of the file, with v unknowns, as the run's first ones. They were read before, so each is read again.
+fn fill_records(run: &mut Run, file: &[u8], at: usize, v: usize, count: usize)
+    requires { (v ≤ most_unknowns) × (count ≤ most_records) × WasRead (reading (times count (record_form v)) file.now at) }
     ensures { run.new ≡ with_records 0 (list_of (reading (times count (record_form v)) file.now at)) run.old }
 {
-    let mut i: usize = 0;
     let mut here = at;
-    while i < count {
-        let record = read_record(file, here, v);
-        let end = record.end;
-        let End::At(next) = end else {
-            return;
-        };
-        let parts = record.parts;
-        layout::set_record(run, i, record.symbol, record.count, parts);
-        here = next;
-        i += 1;
+    for i in 0..count {
+        let record = read_record(file, here, v).unwrap();
+        let parts = record.value.parts;
+        layout::set_record(run, i, record.value.symbol, record.value.count, parts);
+        here = record.next;
     }
 }
 
-// The `count` statements at `at` of the file, with s cabinets and n entries, as the run's last pending items.
-fn fill_statements(run: &mut [u8], file: &[u8], at: usize, s: usize, n: usize, count: usize)
-    requires { (length run.old ≡ run_bytes) × (count_of run.old + count ≤ room) × (s ≤ most_cabinets) × (n ≤ most_unknowns + most_records) × WasRead (reading (times count (statement_form_of s n)) file.now at) }
+// The `count` statements at `at` of the file, with s cabinets and n entries, as the run's last pending items. They were read
+// before, so each is read again.
+fn fill_statements(run: &mut Run, file: &[u8], at: usize, s: usize, n: usize, count: usize)
+    requires { (count_of run.old + count ≤ room) × (s ≤ most_cabinets) × (n ≤ most_unknowns + most_records) × WasRead (reading (times count (statement_form_of s n)) file.now at) }
     ensures { run.new ≡ appended_all (map as_item (list_of (reading (times count (statement_form_of s n)) file.now at))) run.old }
 {
-    let mut i: usize = 0;
     let mut here = at;
-    while i < count {
-        let statement = read_statement(file, here, s, n);
-        let end = statement.end;
-        let End::At(next) = end else {
-            return;
-        };
+    for _ in 0..count {
+        let statement = read_statement(file, here, s, n).unwrap();
         layout::append_item(
             run,
             Item::Statement {
-                cabinet: statement.cabinet,
-                left: statement.left,
-                right: statement.right,
+                cabinet: statement.value.cabinet,
+                left: statement.value.left,
+                right: statement.value.right,
             },
         );
-        here = next;
-        i += 1;
+        here = statement.next;
     }
 }
 
 // The file into the run: its sizes, its records, and its statements as pending items. A refused file leaves every byte.
-pub fn load(file: &[u8], run: &mut [u8]) -> LoadReply
-    ensures { answer result.number result.position run.new ≡ load_bytes file.now run.old }
+pub fn load(file: &[u8], run: &mut [u8]) -> Result<(), Fault>
+    ensures { load_answer result run.new ≡ load_bytes file.now run.old }
 {
-    if run.len() != layout::RUN_BYTES {
-        return LoadReply {
-            number: refusal::WRONG_LENGTH,
-            position: 0,
-        };
-    }
-    let checked = check_file(file);
-    let end = checked.end;
-    if let End::Refused(refusal, at) = end {
-        return LoadReply {
-            number: refusal,
-            position: at,
-        };
-    }
+    let Some(run) = run.as_mut_array() else {
+        return Err(Fault {
+            refusal: Refusal::WrongLength,
+            at: 0,
+        });
+    };
+    let checked = check_file(file)?.value;
     let s = checked.cabinets;
     let v = checked.unknowns;
     let r = checked.records;
@@ -92,8 +67,5 @@ pub fn load(file: &[u8], run: &mut [u8]) -> LoadReply
     layout::set_sizes(run, s as u8, v as u8, r as u8, e as u8);
     fill_records(run, file, checked.table, v, r);
     fill_statements(run, file, checked.list, s, v + r, e);
-    LoadReply {
-        number: 0,
-        position: 0,
-    }
+    Ok(())
 }

@@ -1,10 +1,6 @@
--- `fill_statements` meets its contract: one law of filling for each way out, and for the turns of its loop.
+-- `fill_statements` meets its contract: one law of filling for the way out, and for the turns of its loop.
 use Rattle.statements.proofs.Filled.{StatementsTo}
-use Prim.Native.Nat.{◌-◌}
 use Rattle.statements.proofs.loading.fill_statements.Given as goal
 
-abbrev pub invariant-loop-i : goal.invariant-loop-i
-invariant-loop-i l = StatementsTo l.s l.n l.count l.file l.at l.initial.run l.i l.here l.run
-
-abbrev pub decreases-loop-i : goal.decreases-loop-i
-decreases-loop-i l = l.count - l.i
+abbrev pub invariant-loop : goal.invariant-loop
+invariant-loop l = StatementsTo l.s l.n l.count l.file l.at l.initial.run l.counter l.here l.run
