@@ -64,9 +64,6 @@ module _ (f : ℕ → Bool) where
   unfolding all_below
   tested_next i b clean e h = rw (add-one, ← h, ← e) (and_comm clean b)
 
-  pub tested_all : (n i : ℕ) (clean : Bool) → clean ≡ all_below i f → i ≤ n → n ≤ i → clean ≡ all_below n f
-  tested_all n i clean h l k = let e : i ≡ n = omega arith in rw e at h
-
 -- `(0..n).all(..)`, whose closure says of each number what f says
 module _ {F : Type 0} {g : Mut F (ℕ × Unit {0}) Bool} {s : Range ℕ} {u : Range ℕ} {closure : F} (f : ℕ → Bool) (n : ℕ) where
   pub all_range : (r : Bool)

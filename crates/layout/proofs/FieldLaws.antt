@@ -29,10 +29,6 @@ module _ (v n at : ℕ) (d : List ℕ) where
       let k : i < n = omega (arith, simp (length-take, length-drop) at l) in
       tested_next (λ j. eqb (byte_at d (at + j)) v) i _ clean (ap (λ (b : ℕ). eqb b v) (part_at at n i d k)) e
 
-  pub all_all : (i : ℕ) (clean : Bool) → at + n ≤ length d → i ≤ length (take (at + n - at) (drop at d)) → length (take (at + n - at) (drop at d)) ≤ i
-      → clean ≡ all_are v i at d → clean ≡ all_are v n at d
-  all_all i clean h l k e = let m : i ≡ n = omega (arith, simp (length-take, length-drop) at l, simp (length-take, length-drop) at k) in rw m at e
-
 -- a region, from its first byte
 get_first : (d : List ℕ) (at n : ℕ) → at < length d → get at (suc n) d ≡ byte_at d at ∷ get (suc at) n d
 unfolding get

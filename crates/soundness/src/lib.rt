@@ -12,8 +12,8 @@ ghost use Rattle.layout.specs.Soundness.{lesser, clash_ok, sizes_ok, parts_ok, r
 use layout::{Mark, Run};
 use paper::sizes;
 
-// Whether the n bytes from `at` on are 0 or 1, in a loop like that of `layout::all_are`, of which it is no instance: one function of
-// both would ask of its test, in four lines of clauses, what each loop says in one.
+// Whether the n bytes from `at` on are 0 or 1, in a loop like that of `layout::all_are`: one function of both would be no plainer, since
+// its clauses would have to say what a closure answers.
 fn bits_at(run: &Run, n: usize, at: usize) -> bool
     requires { at + n ≤ length run.now }
     ensures { result ≡ all_below n (λ i. leb (byte_at run.now (at + i)) 1) }
@@ -36,10 +36,10 @@ struct Sizes {
 }
 
 impl Sizes {
-    // The sizes of a run, if they and E are in their ranges.
-    #[tactic(auto, using(std::proofs::lemmas::Bool::Decides::nat_tests), unfolding(layout::specs::Soundness::sizes_ok))]
+    // The sizes of a run, if they and E are in their ranges: then it is sound if its regions are.
+    #[tactic(auto, using(std::proofs::lemmas::Bool::Decides::nat_tests), unfolding(layout::specs::Soundness::sizes_ok, layout::specs::Soundness::sound_bytes))]
     fn of(run: &Run) -> Option<Sizes>
-        ensures { MatchOption result (sizes_ok (byte_at run.now cabinets_at) (byte_at run.now unknowns_at) (byte_at run.now records_at) (byte_at run.now statements_at) (count_of run.now) ≡ false) (λ z. (sizes_ok (byte_at run.now cabinets_at) (byte_at run.now unknowns_at) (byte_at run.now records_at) (byte_at run.now statements_at) (count_of run.now) ≡ true) × (z.cabinets ≡ byte_at run.now cabinets_at) × (z.unknowns ≡ byte_at run.now unknowns_at) × (z.records ≡ byte_at run.now records_at) × (z.items ≡ count_of run.now)) }
+        ensures { MatchOption result (sound_bytes run.now ≡ false) (λ z. sound_bytes run.now ≡ regions_ok z.cabinets z.unknowns z.records z.items run.now) }
     {
         let cabinets = layout::cabinets(run);
         let unknowns = layout::unknowns(run);
@@ -67,10 +67,13 @@ impl Sizes {
     fn lesser(self, u: usize, x: usize) -> bool
         ensures { result ≡ lesser self.unknowns self.records u x }
     {
+        if x >= self.unknowns {
+            return false;
+        }
         if u < self.unknowns {
-            x < self.unknowns && u < x
+            u < x
         } else {
-            x < self.unknowns && u < self.unknowns + self.records
+            u < self.unknowns + self.records
         }
     }
 
@@ -210,10 +213,12 @@ impl Sizes {
     fn item_ok(self, k: u8, c: usize, a: usize, b: usize) -> bool
         ensures { result ≡ item_ok self.cabinets self.unknowns self.records k c a b }
     {
-        let entries = self.unknowns + self.records;
+        if c >= self.cabinets {
+            return false;
+        }
         match k {
-            1 => c < self.cabinets && a < entries && b < entries,
-            2 | 3 => c < self.cabinets && self.lesser(b, a),
+            1 => a < self.unknowns + self.records && b < self.unknowns + self.records,
+            2 | 3 => self.lesser(b, a),
             _ => false,
         }
     }
@@ -258,7 +263,6 @@ impl Sizes {
 }
 
 // Whether the run is sound. Sizes out of range are refused before any sum of them is taken.
-#[tactic(auto, unfolding(layout::specs::Soundness::sound_bytes))]
 pub fn sound(run: &Run) -> bool
     ensures { result ≡ sound_bytes run.now }
 {
