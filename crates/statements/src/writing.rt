@@ -34,7 +34,7 @@ fn as_loaded(run: &Run) -> bool
     ensures { result ≡ as_loaded run.now }
 {
     let e = layout::statements(run);
-    layout::clash_byte(run) == 0
+    !layout::has_clashed(run)
         && layout::count(run) == e
         && layout::all_are(run, layout::MEMOS - layout::OWNERS, layout::OWNERS, 255)
         && layout::all_are(run, layout::PENDING - layout::MEMOS, layout::MEMOS, 0)
