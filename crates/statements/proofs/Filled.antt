@@ -22,7 +22,7 @@ use Rattle.reading.specs.declared.StatementRead.{StatementRead}
 use Rattle.reading.specs.Reads.{read_as, next_of, WasRead, list_of, record_of, RecordFound, statement_form_of, statement_of}
 use Rattle.reading.proofs.Times.{times_count}
 use Rattle.reading.proofs.RecordFinds.{symbol_small}
-use Rattle.statements.proofs.Again.{LeftFrom, all_left, never_refused, value_again, left_again}
+use Rattle.statements.proofs.Again.{LeftFrom, all_left, not_refused, value_again, left_again}
 
 -- what was read
 pub was_read : {A : Type 0} (x : Read (List A)) → WasRead x → x ≡ got (list_of x) (next_of x)
@@ -82,7 +82,7 @@ module _ (v n : ℕ) (f : List ℕ) (at : ℕ) (d₀ : List ℕ) where
 
     module _ (g : i < n) (x : Result (Found RecordRead) Fault) (e : RecordFound (record_form v) f here x) where
       pub record_again : IsOk x
-      record_again = never_refused (record_form v) f n _ _ i here h.left record_of g x e.read
+      record_again = not_refused (record_form v) f n _ _ i here h.left record_of g x e.read
 
       module _ (y : Found RecordRead) (o : x ≡ Ok y) where
         found : RecordFound (record_form v) f here (Ok y)
@@ -134,7 +134,7 @@ module _ (s k n : ℕ) (f : List ℕ) (at : ℕ) (d₀ : List ℕ) where
 
       module _ (x : Result (Found StatementRead) Fault) (e : read_as statement_of x ≡ reading (statement_form_of s k) f here) where
         pub statement_again : IsOk x
-        statement_again = never_refused (statement_form_of s k) f n _ _ i here h.filled.left statement_of g x e
+        statement_again = not_refused (statement_form_of s k) f n _ _ i here h.filled.left statement_of g x e
 
         pub statement_filled : count_of d₀ + n ≤ room → (y : Found StatementRead) → x ≡ Ok y
             → (d' : List ℕ) → length d' ≡ run_bytes → d' ≡ appended (statement y.value.cabinet y.value.left y.value.right) d → StatementsTo (i + 1) y.next d'

@@ -1,9 +1,8 @@
 // Loading: the whole file is checked first, and only then read again into the run, so that a refused file leaves every byte.
-ghost use Rattle.std.specs.Prelude.{◌≡◌, map, ◌+◌, ◌≤◌, length};
+ghost use Rattle.std.specs.Prelude.{◌≡◌, map, ◌+◌, ◌≤◌};
 ghost use Rattle.paper.specs.Sizes.{most_cabinets, most_unknowns, most_records, room};
 ghost use Rattle.paper.specs.Runs.{as_item};
 ghost use Rattle.paper.specs.Files.{times, record_form, reading};
-ghost use Rattle.layout.specs.Offsets.{run_bytes};
 ghost use Rattle.layout.specs.Fields.{count_of};
 ghost use Rattle.layout.specs.Changes.{with_records, appended_all};
 ghost use Rattle.reading.specs.Reads.{WasRead, list_of, statement_form_of};
