@@ -44,10 +44,10 @@ module _ {A : Type 0} (m : Form A) (f : List ℕ) (n : ℕ) (l : List A) (last :
       one_left : n - i ≡ suc (n - (i + 1))
       one_left = omega arith
 
-      pub never_refused : (x : Result (Found B) Fault) → read_as q x ≡ reading m f here → IsOk x
+      pub not_refused : (x : Result (Found B) Fault) → read_as q x ≡ reading m f here → IsOk x
       unfolding LeftFrom
-      never_refused (Ok y) e = refl
-      never_refused (Err y) e =
+      not_refused (Ok y) e = refl
+      not_refused (Err y) e =
           absurd (fault_got (sym (first_refused m f (n - (i + 1)) here (refusal_number y.refusal) y.at (sym e)) ∙ rw one_left at h))
 
       module _ (y : Found B) (e : got (q y.value) y.next ≡ reading m f here) where

@@ -12,7 +12,8 @@ use Rattle.base.specs.Lists.{All, Bytes}
 use Rattle.paper.specs.Sizes.{longest_file}
 use Rattle.paper.specs.Tables.{Table, TableOk}
 use Rattle.paper.specs.Runs.{Statement, Run, as_item, initial, Sound}
-use Rattle.paper.specs.Files.{File, got, read_file, file_bytes, padded_file}
+use Rattle.paper.specs.Numbers.{got}
+use Rattle.paper.specs.Files.{File, read_file, file_bytes, padded_file}
 use Rattle.paper.specs.Reached.{StatementOk, FileOk}
 use Rattle.paper.specs.Replies.{AsLoaded}
 use Rattle.paper.proofs.RoundTrip.{written_read}

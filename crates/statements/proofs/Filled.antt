@@ -6,7 +6,7 @@ use native.Mathlib.Omega.{arith}
 use lib.ListN.{length, take, drop, drop_of_length-le}
 use lib.Seq.{length-take-le}
 use Rattle.std.specs.Prelude.{Result, Ok, IsOk}
-use Rattle.paper.specs.Sizes.{most_records, most_parts, number_limit, room}
+use Rattle.paper.specs.Sizes.{most_parts, number_limit, room}
 use Rattle.paper.specs.Numbers.{Read, got, fault}
 use Rattle.paper.specs.Runs.{Statement, as_item}
 use Rattle.paper.specs.Files.{Form, times, record_form, reading}
@@ -16,14 +16,13 @@ use Rattle.paper.specs.declared.Found.{Found}
 use Rattle.layout.specs.Offsets.{run_bytes}
 use Rattle.layout.specs.Fields.{count_of}
 use Rattle.layout.specs.Changes.{appended, appended_all, with_record, with_records}
-use Rattle.layout.proofs.Views.{appended_long, appended_count}
+use Rattle.layout.proofs.Views.{appended_count}
 use Rattle.reading.specs.declared.RecordRead.{RecordRead}
 use Rattle.reading.specs.declared.StatementRead.{StatementRead}
 use Rattle.reading.specs.Reads.{read_as, next_of, WasRead, list_of, record_of, RecordFound, statement_form_of, statement_of}
 use Rattle.reading.proofs.Times.{times_count}
 use Rattle.reading.proofs.RecordFinds.{symbol_small}
-use Rattle.statements.proofs.Again.{LeftFrom, all_left, never_refused, value_again, left_again}
-use Rattle.statements.proofs.Loaded.{written_long}
+use Rattle.statements.proofs.Again.{LeftFrom, all_left, not_refused, value_again, left_again}
 
 -- what was read
 pub was_read : {A : Type 0} (x : Read (List A)) → WasRead x → x ≡ got (list_of x) (next_of x)
@@ -71,46 +70,34 @@ module _ {A : Type 0} (more : ℕ → List A → List ℕ → List ℕ) (one : �
 
 -- the records of a table
 module _ (v n : ℕ) (f : List ℕ) (at : ℕ) (d₀ : List ℕ) where
-  abbrev Records : ℕ → ℕ → List ℕ → Type 0
-  Records i here d = FilledTo with_records with_record (λ i d. refl) (λ i a l d. refl) (record_form v) n f at d₀ i here d
+  abbrev pub RecordsTo : ℕ → ℕ → List ℕ → Type 0
+  RecordsTo i here d = FilledTo with_records with_record (λ i d. refl) (λ i a l d. refl) (record_form v) n f at d₀ i here d
 
-  pub record RecordsTo (i here : ℕ) (d : List ℕ) : Type 0 where
-    pub filled : Records i here d
-    pub long : length d ≡ run_bytes
-
-  pub no_record_yet : length d₀ ≡ run_bytes → WasRead (reading (times n (record_form v)) f at) → RecordsTo 0 at d₀
-  no_record_yet l h = record { filled = none_filled with_records with_record (λ i d. refl) (λ i a l d. refl) (record_form v) n f at d₀ h; long = l }
+  pub no_record_yet : WasRead (reading (times n (record_form v)) f at) → RecordsTo 0 at d₀
+  no_record_yet h = none_filled with_records with_record (λ i d. refl) (λ i a l d. refl) (record_form v) n f at d₀ h
 
   module _ (i here : ℕ) (d : List ℕ) (h : RecordsTo i here d) where
-    pub records_long : length d ≡ run_bytes
-    records_long = h.long
-
     pub records_filled : WasRead (reading (times n (record_form v)) f at) → n ≤ i → d ≡ with_records 0 (list_of (reading (times n (record_form v)) f at)) d₀
-    records_filled r g = all_filled with_records with_record (λ i d. refl) (λ i a l d. refl) (record_form v) n f at d₀ i here d h.filled r g
+    records_filled r g = all_filled with_records with_record (λ i d. refl) (λ i a l d. refl) (record_form v) n f at d₀ i here d h r g
 
     module _ (g : i < n) (x : Result (Found RecordRead) Fault) (e : RecordFound (record_form v) f here x) where
       pub record_again : IsOk x
-      record_again = never_refused (record_form v) f n _ _ i here h.filled.left record_of g x e.read
+      record_again = not_refused (record_form v) f n _ _ i here h.left record_of g x e.read
 
       module _ (y : Found RecordRead) (o : x ≡ Ok y) where
         found : RecordFound (record_form v) f here (Ok y)
         found = subst (RecordFound (record_form v) f here) o e
 
-        pub few_parts : y.value.count ≤ most_parts
-        few_parts = found.places.few
+        pub parts_few : length (take y.value.count y.value.parts) ≤ most_parts
+        parts_few =
+            omega (arith, length-take-le y.value.count y.value.parts (omega (arith, found.places.few, found.places.long)), found.places.few)
 
         pub small_symbol : y.value.symbol < number_limit
         small_symbol = symbol_small v f here y found
 
-        pub record_filled : n ≤ most_records → (d' : List ℕ) → d' ≡ with_record i (record { symbol = y.value.symbol; parts = take y.value.count y.value.parts }) d
+        pub record_filled : (d' : List ℕ) → d' ≡ with_record i (record { symbol = y.value.symbol; parts = take y.value.count y.value.parts }) d
             → RecordsTo (i + 1) y.next d'
-        record_filled w d' p =
-            let t : length (take y.value.count y.value.parts) ≤ most_parts =
-            omega (arith, length-take-le y.value.count y.value.parts (omega (arith, found.places.few, found.places.long)), found.places.few) in
-            record {
-              filled = one_filled with_records with_record (λ i d. refl) (λ i a l d. refl) (record_form v) n f at d₀ i here d h.filled record_of g y found.read d' p;
-              long = ap length p ∙ written_long i _ d h.long (omega arith) t ∙ h.long;
-            }
+        record_filled d' p = one_filled with_records with_record (λ i d. refl) (λ i a l d. refl) (record_form v) n f at d₀ i here d h record_of g y found.read d' p
 
 -- the statements
 abbrev all_appended : ℕ → List Statement → List ℕ → List ℕ
@@ -137,9 +124,6 @@ module _ (s k n : ℕ) (f : List ℕ) (at : ℕ) (d₀ : List ℕ) where
       }
 
   module _ (i here : ℕ) (d : List ℕ) (h : StatementsTo i here d) where
-    pub statements_long : length d ≡ run_bytes
-    statements_long = h.long
-
     pub statements_filled : WasRead (reading (times n (statement_form_of s k)) f at) → n ≤ i
         → d ≡ appended_all (map as_item (list_of (reading (times n (statement_form_of s k)) f at))) d₀
     statements_filled r g = all_filled all_appended one_appended (λ i d. refl) (λ i a l d. refl) (statement_form_of s k) n f at d₀ i here d h.filled r g
@@ -150,15 +134,15 @@ module _ (s k n : ℕ) (f : List ℕ) (at : ℕ) (d₀ : List ℕ) where
 
       module _ (x : Result (Found StatementRead) Fault) (e : read_as statement_of x ≡ reading (statement_form_of s k) f here) where
         pub statement_again : IsOk x
-        statement_again = never_refused (statement_form_of s k) f n _ _ i here h.filled.left statement_of g x e
+        statement_again = not_refused (statement_form_of s k) f n _ _ i here h.filled.left statement_of g x e
 
         pub statement_filled : count_of d₀ + n ≤ room → (y : Found StatementRead) → x ≡ Ok y
-            → (d' : List ℕ) → d' ≡ appended (statement y.value.cabinet y.value.left y.value.right) d → StatementsTo (i + 1) y.next d'
-        statement_filled w y o d' p =
+            → (d' : List ℕ) → length d' ≡ run_bytes → d' ≡ appended (statement y.value.cabinet y.value.left y.value.right) d → StatementsTo (i + 1) y.next d'
+        statement_filled w y o d' l p =
             record {
               filled =
                   one_filled all_appended one_appended (λ i d. refl) (λ i a l d. refl) (statement_form_of s k) n f at d₀ i here d h.filled
                   statement_of g y (rw o at e) d' p;
-              long = ap length p ∙ appended_long d (statement y.value.cabinet y.value.left y.value.right) h.long (room_for_one w);
+              long = l;
               count = ap count_of p ∙ appended_count d (statement y.value.cabinet y.value.left y.value.right) h.long (room_for_one w) ∙ omega (arith, h.count);
             }

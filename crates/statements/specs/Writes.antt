@@ -1,5 +1,5 @@
 -- What writing takes from a run's bytes: when a sound run is as loaded, the file that it is, and what the call leaves.
-use Rattle.std.specs.Prelude.{◌≡◌, Bool, ◌&&◌, List, ◌++◌, ℕ, ◌+◌, ◌-◌, ◌≤◌, Result, Ok, Err, eqb, length}
+use Rattle.std.specs.Prelude.{◌≡◌, Bool, ◌&&◌, List, ℕ, ◌+◌, ◌-◌, ◌≤◌, Result, Ok, Err, eqb, length}
 use Rattle.base.specs.Choice.{pick, all_below}
 use Rattle.base.specs.Lists.{list_from}
 use Rattle.base.specs.Puts.{PutFrom}
@@ -10,7 +10,7 @@ use Rattle.paper.specs.declared.refused.Fault.{Fault}
 use Rattle.paper.specs.Numbers.{Read, got, fault}
 use Rattle.paper.specs.Runs.{Statement}
 use Rattle.paper.specs.Files.{File, file_bytes, padded_file, read_file}
-use Rattle.layout.specs.Offsets.{clash_at, cabinets_at, unknowns_at, records_at, statements_at, owners_at, memos_at, pending_at, run_bytes, item_from}
+use Rattle.layout.specs.Offsets.{clash_at, statements_at, owners_at, memos_at, pending_at, run_bytes, item_from}
 use Rattle.layout.specs.Fields.{byte_at, count_of, table_of}
 use Rattle.layout.specs.Soundness.{all_are, sound_bytes}
 use Rattle.statements.specs.declared.writing.Writer.{Writer}

@@ -1,17 +1,16 @@
 // Loading: the whole file is checked first, and only then read again into the run, so that a refused file leaves every byte.
-ghost use Rattle.std.specs.Prelude.{◌≡◌, map, ◌+◌, ◌≤◌, length};
+ghost use Rattle.std.specs.Prelude.{◌≡◌, map, ◌+◌, ◌≤◌};
 ghost use Rattle.paper.specs.Sizes.{most_cabinets, most_unknowns, most_records, room};
 ghost use Rattle.paper.specs.Runs.{as_item};
 ghost use Rattle.paper.specs.Files.{times, record_form, reading};
-ghost use Rattle.layout.specs.Offsets.{run_bytes};
 ghost use Rattle.layout.specs.Fields.{count_of};
 ghost use Rattle.layout.specs.Changes.{with_records, appended_all};
 ghost use Rattle.reading.specs.Reads.{WasRead, list_of, statement_form_of};
 ghost use Rattle.statements.specs.Writes.{load_answer, load_bytes};
 
 use layout::Run;
-use paper::{Fault, Item, Refusal};
-use reading::{check_file, read_record, read_statement};
+use paper::{Fault, Found, Item, Refusal};
+use reading::{StatementRead, check_file, read_record, read_statement};
 
 // The `count` records at `at` of the file, with v unknowns, as the run's first ones. They were read before, so each is read again.
 fn fill_records(run: &mut Run, file: &[u8], at: usize, v: usize, count: usize)
@@ -20,10 +19,9 @@ fn fill_records(run: &mut Run, file: &[u8], at: usize, v: usize, count: usize)
 {
     let mut here = at;
     for i in 0..count {
-        let record = read_record(file, here, v).unwrap();
-        let parts = record.value.parts;
-        layout::set_record(run, i, record.value.symbol, record.value.count, parts);
-        here = record.next;
+        let Found { value, next } = read_record(file, here, v).unwrap();
+        layout::set_record(run, i, value.symbol, &value.parts[..value.count]);
+        here = next;
     }
 }
 
@@ -35,16 +33,21 @@ fn fill_statements(run: &mut Run, file: &[u8], at: usize, s: usize, n: usize, co
 {
     let mut here = at;
     for _ in 0..count {
-        let statement = read_statement(file, here, s, n).unwrap();
+        let Found { value, next } = read_statement(file, here, s, n).unwrap();
+        let StatementRead {
+            cabinet,
+            left,
+            right,
+        } = value;
         layout::append_item(
             run,
             Item::Statement {
-                cabinet: statement.value.cabinet,
-                left: statement.value.left,
-                right: statement.value.right,
+                cabinet,
+                left,
+                right,
             },
         );
-        here = statement.next;
+        here = next;
     }
 }
 

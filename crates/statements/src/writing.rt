@@ -1,11 +1,9 @@
 // Writing: a run that is as loading some file leaves it, back into that file.
-ghost use Rattle.std.specs.Prelude.{◌≡◌, true, ◌+◌, ◌≤◌, ◌<◌, length};
-ghost use Rattle.base.specs.Lists.{list_from};
-ghost use Rattle.base.specs.Puts.{PutFrom};
+ghost use Rattle.std.specs.Prelude.{◌≡◌, true, ◌≤◌, ◌<◌, length};
 ghost use Rattle.paper.specs.Sizes.{most_records, most_parts, number_limit, room};
 ghost use Rattle.paper.specs.Numbers.{number_bytes};
-ghost use Rattle.paper.specs.Files.{each, record_bytes, statement_bytes, table_bytes, file_bytes, padded_file};
-ghost use Rattle.layout.specs.Fields.{part_count_of, parts_from, record_of, records_from, table_of};
+ghost use Rattle.paper.specs.Files.{record_bytes, statement_bytes, table_bytes, file_bytes, padded_file};
+ghost use Rattle.layout.specs.Fields.{part_count_of, record_of, table_of};
 ghost use Rattle.layout.specs.Soundness.{sound_bytes};
 ghost use Rattle.statements.specs.Writes.{all_statements, as_loaded, statement_at, file_of, HasRoom, Wrote, write_answer, written_bytes};
 
@@ -34,7 +32,7 @@ fn as_loaded(run: &Run) -> bool
     ensures { result ≡ as_loaded run.now }
 {
     let e = layout::statements(run);
-    layout::clash_byte(run) == 0
+    !layout::has_clashed(run)
         && layout::count(run) == e
         && layout::all_are(run, layout::MEMOS - layout::OWNERS, layout::OWNERS, 255)
         && layout::all_are(run, layout::PENDING - layout::MEMOS, layout::MEMOS, 0)
