@@ -69,7 +69,11 @@ pub fn ranged_at(
 ) -> Result<Found<u64>, Fault>
     ensures { as_read result ≡ ranged_at low below (refusal_number refusal) s.now at }
 {
-    let number = number_at(s, at)?;
+    // Document 01 names this form: each number read is taken apart by let else.
+    let read = number_at(s, at);
+    let Ok(number) = read else {
+        return read;
+    };
     if (low..below).contains(&number.value) {
         Ok(number)
     } else {
