@@ -1,15 +1,16 @@
 -- Laws of the map program: one for each way out of `print`, and what its callees ask.
-use Rattle.std.proofs.Common.{take_all, drop_at, length-take-le}
+use Rattle.std.proofs.Common.{Result, Ok, Err, take_all, drop_at, length-take-le}
 use Rattle.std.proofs.lemmas.Slice.{take-put_mid_below}
 use lib.Seq.{take-add, take-append-le}
 use mathlib.Core.Path.{◌≡◌, refl, sym, ap, subst, ◌∙◌}
 use mathlib.Core.Logic.{inl, inr}
-use mathlib.Core.Bool.{true}
+use mathlib.Core.Bool.{Bool, true, false, not}
+use lib.Dec.{eqb}
 use mathlib.Core.List.{List, ◌++◌}
 use mathlib.Core.Option.{none, some}
 use Prim.Native.Nat.{ℕ, ◌+◌, ◌-◌, ◌≤◌, ◌<◌}
 use native.Mathlib.Omega.{arith}
-use borrow.Author.Tests.{eq-eqb, ne_eqb}
+use borrow.Author.Tests.{eq-eqb, eqb-true}
 use lib.ListN.{length, take, drop, length-append}
 use borrow.Rule.Slice.PartMut.{put_mid, post_of}
 use mir.Syntax.{w8}
@@ -18,7 +19,8 @@ use Rattle.base.specs.Puts.{PutFrom}
 use Rattle.base.specs.Regions.{put}
 use Rattle.paper.specs.Sizes.{most_unknowns}
 use Rattle.paper.specs.Tables.{Table, TableOk}
-use Rattle.paper.specs.Files.{File, Read, got, fault, read_file}
+use Rattle.paper.specs.Numbers.{Read, got, fault}
+use Rattle.paper.specs.Files.{File, read_file}
 use Rattle.paper.specs.Reached.{FileOk}
 use Rattle.paper.specs.Programs.{printed_clash, printed_refusal, printed_run, printed_read, printed}
 use Rattle.layout.specs.Offsets.{clash_at, clash_cabinet_at, unknowns_at, run_bytes, map_bytes}
@@ -28,10 +30,10 @@ use Rattle.layout.specs.Soundness.{sound_bytes}
 use Rattle.layout.specs.MapRows.{map_of}
 use Rattle.layout.proofs.SoundViews.{tested, in_range, view_sound}
 use Rattle.statements.specs.Loads.{loaded_bytes}
-use Rattle.statements.specs.Writes.{answer, loaded_read, load_bytes}
+use Rattle.statements.specs.Writes.{Answer, answer, load_answer, loaded_read, load_bytes}
 use Rattle.statements.proofs.Loaded.{loaded_bytes_sound}
 use Rattle.rules.proofs.Bridge.{ready_sound}
-use Rattle.maps.specs.Bytes.{mapped, drawn_map, map_bytes_of}
+use Rattle.maps.specs.Bytes.{mapped, told, drawn_map, map_bytes_of}
 use Rattle.drawing.specs.Draws.{drawn_bytes}
 use Rattle.printing.specs.Prints.{map_printed}
 use Rattle.printing.proofs.MapText.{map_printed_lem}
@@ -39,42 +41,45 @@ use Rattle.promises.specs.FromFiles.{Accepted, AtEnd}
 use Rattle.promises.specs.Sentences.{ProgramEnds}
 use Rattle.promises.proofs.Reaching.{Viewed, viewed, file_ok}
 use Rattle.promises.proofs.Sentences.{sentences}
-use Rattle.mapping.specs.Runs.{Ran}
+use Rattle.paper.specs.Refusals.{refusal_number}
+use Rattle.paper.specs.declared.refused.Refusal.{Refusal}
+use Rattle.paper.specs.declared.refused.Fault.{Fault}
+use Rattle.mapping.specs.Runs.{Ends, Ran}
 use Rattle.paper.proofs.NotZero.{refusal_not_zero}
 
 -- what loading an accepted file leaves
-record Loading (s : List ℕ) (k p : ℕ) (d : List ℕ) : Type 0 where
+record Loading (s d : List ℕ) : Type 0 where
   file : File
   last : ℕ
   read : read_file s ≡ got file last
   left : d ≡ loaded_bytes file
 
-module _ (s d0 : List ℕ) (long : length d0 ≡ run_bytes) (k p : ℕ) (d1 : List ℕ) (e : answer k p d1 ≡ load_bytes s d0) where
-  by_reading : answer k p d1 ≡ loaded_read d0 (read_file s)
+module _ (s d0 : List ℕ) (long : length d0 ≡ run_bytes) (d1 : List ℕ) where
+  by_reading : (a : Answer) → a ≡ load_bytes s d0 → a ≡ loaded_read d0 (read_file s)
   unfolding load_bytes
-  by_reading = e ∙ rw (eq-eqb (length d0) run_bytes long) refl
+  by_reading a e = e ∙ rw (eq-eqb (length d0) run_bytes long) refl
 
-  refused_text : (k ≡ 0 → ⊥) → printed s ≡ printed_refusal k p
+  pub ran_refused : (e : Fault) → load_answer (Err e) d1 ≡ load_bytes s d0 → Ran s (Err e) d1
   unfolding printed
-  refused_text h = go (read_file s) refl by_reading
+  ran_refused e w = go (read_file s) refl (by_reading (load_answer (Err e) d1) w)
     where
-      go : (x : Read File) → read_file s ≡ x → answer k p d1 ≡ loaded_read d0 x → printed s ≡ printed_refusal k p
-      go (got f to) r g = let z : k ≡ 0 = cc in absurd (h z)
+      not_done : (r : Refusal) → refusal_number r ≡ 0 → ⊥
+      not_done r = λ (z : refusal_number r ≡ 0). grind arith
+
+      go : (x : Read File) → read_file s ≡ x → load_answer (Err e) d1 ≡ loaded_read d0 x → printed s ≡ printed_refusal (refusal_number e.refusal) e.at
+      go (got f to) r g = let z : refusal_number e.refusal ≡ 0 = cc in absurd (not_done e.refusal z)
       go (fault j q) r g =
-          let a : j ≡ k = cc in
-          let b : q ≡ p = cc in
-          ap printed_read r ∙ ap (λ (i : ℕ). printed_refusal i q) a ∙ ap (printed_refusal k) b
+          let a : j ≡ refusal_number e.refusal = cc in
+          let b : q ≡ e.at = cc in
+          ap printed_read r ∙ ap (λ (i : ℕ). printed_refusal i q) a ∙ ap (printed_refusal (refusal_number e.refusal)) b
 
-  pub ran_refused : (k ≡ 0 → ⊥) → Ran s k p d1
-  ran_refused h = record { refused = refused_text; sound = λ z. absurd (h z); over = λ z. absurd (h z); text = λ z. absurd (h z) }
-
-  module _ (z : k ≡ 0) where
-    loading : Loading s k p d1
-    loading = go (read_file s) refl by_reading
+  module _ (w : load_answer (Ok tt) d1 ≡ load_bytes s d0) where
+    loading : Loading s d1
+    loading = go (read_file s) refl (by_reading (load_answer (Ok tt) d1) w)
       where
-        go : (x : Read File) → read_file s ≡ x → answer k p d1 ≡ loaded_read d0 x → Loading s k p d1
+        go : (x : Read File) → read_file s ≡ x → answer 0 0 d1 ≡ loaded_read d0 x → Loading s d1
         go (got f to) r g = record { file = f; last = to; read = r; left = cc }
-        go (fault j q) r g = let a : k ≡ j = cc in absurd (let y : ⊥ = omega (arith, refusal_not_zero s j q r) in y)
+        go (fault j q) r g = let a : 0 ≡ j = cc in absurd (let y : ⊥ = omega (arith, refusal_not_zero s j q r) in y)
 
     module _ (bytes : (i : ℕ) → Fits w8 (byte_at s i)) where
       accepted : Accepted s loading.file
@@ -96,7 +101,7 @@ module _ (s d0 : List ℕ) (long : length d0 ≡ run_bytes) (k p : ℕ) (d1 : Li
         view : Viewed loading.file ends.steps (drawn_bytes (loaded_bytes loading.file))
         view = viewed s loading.file accepted ends.carried
 
-        pub drawn_sound : sound_bytes d2 ≡ true
+        drawn_sound : sound_bytes d2 ≡ true
         drawn_sound = ap sound_bytes drawn_is ∙ ready_sound (drawn_bytes (loaded_bytes loading.file)) view.ready
 
         text_is : printed s ≡ printed_run loading.file.table (run_of d2) (clash_of d2)
@@ -107,47 +112,36 @@ module _ (s d0 : List ℕ) (long : length d0 ≡ run_bytes) (k p : ℕ) (d1 : Li
         table_is : table_of d2 ≡ loading.file.table
         table_is = ap table_of drawn_is ∙ view.table
 
-        pub ran_to_its_end : Ran s k p d2
+        pub ran_to_its_end : Ends s d2
         ran_to_its_end =
             record {
-              refused = refused_text;
-              sound = λ y. drawn_sound;
-              over = λ y. subst AtEnd (sym drawn_is) ends.over;
-              text = λ y. text_is ∙ ap (λ (t : Table). printed_run t (run_of d2) (clash_of d2)) (sym table_is);
+              sound = drawn_sound;
+              over = subst AtEnd (sym drawn_is) ends.over;
+              text = text_is ∙ ap (λ (t : Table). printed_run t (run_of d2) (clash_of d2)) (sym table_is);
             }
 
--- what was made of the file is printed
-module _ (s : List ℕ) (k p : ℕ) (d : List ℕ) (ran : Ran s k p d) where
-  pub refused_printed : (k ≡ 0 → ⊥) → (o o' : List ℕ) (n : ℕ) → PutFrom 0 (printed_refusal k p) o o' n → PutFrom 0 (printed s) o o' n
-  refused_printed h o o' n w = subst (λ (l : List ℕ). PutFrom 0 l o o' n) (sym (ran.refused h)) w
+clashes : (b : Bool) → not b ≡ true → b ≡ false
+clashes true e = absurd (let y : ⊥ = cc in y)
+clashes false e = refl
 
-  module _ (z : k ≡ 0) where
-    pub ran_sound : sound_bytes d ≡ true
-    ran_sound = ran.sound z
-
-    pub ran_over : AtEnd d
-    ran_over = ran.over z
-
-    pub run_printed : (o o' : List ℕ) (n : ℕ) → PutFrom 0 (printed_run (table_of d) (run_of d) (clash_of d)) o o' n → PutFrom 0 (printed s) o o' n
-    run_printed o o' n w = subst (λ (l : List ℕ). PutFrom 0 l o o' n) (sym (ran.text z)) w
+runs : (b : Bool) → not b ≡ false → b ≡ true
+runs true e = refl
+runs false e = absurd (let y : ⊥ = cc in y)
 
 -- a run at its end
 module _ (d : List ℕ) (long : length d ≡ run_bytes) (sound : sound_bytes d ≡ true) (over : AtEnd d)
-    (c : ℕ) (ec : Reads (byte_at d clash_at) byte_limit c) where
-  abbrev text : List ℕ
-  text = printed_run (table_of d) (run_of d) (clash_of d)
-
-  pub clash_printed : (c ≡ 0 → ⊥) → (o o' : List ℕ) (n : ℕ) → PutFrom 0 printed_clash o o' n → PutFrom 0 (printed_run (table_of d) (run_of d) (clash_of d)) o o' n
+    (c : Bool) (ec : c ≡ not (eqb (byte_at d clash_at) 0)) where
+  pub clash_printed : c ≡ true → (o o' : List ℕ) (n : ℕ) → PutFrom 0 printed_clash o o' n → PutFrom 0 (printed_run (table_of d) (run_of d) (clash_of d)) o o' n
   clash_printed h o o' n w =
-      let f : clash_of d ≡ some (byte_at d clash_cabinet_at) = rw (← ec.same, ne_eqb c 0 h) refl in
+      let f : clash_of d ≡ some (byte_at d clash_cabinet_at) = rw (clashes (eqb (byte_at d clash_at) 0) (sym ec ∙ h)) refl in
       subst (λ (l : List ℕ). PutFrom 0 l o o' n) (sym (ap (printed_run (table_of d) (run_of d)) f)) w
 
-  module _ (zc : c ≡ 0) (v : ℕ) (ev : Reads (byte_at d unknowns_at) byte_limit v) where
+  module _ (zc : c ≡ false) (v : ℕ) (ev : Reads (byte_at d unknowns_at) byte_limit v) where
     pub unknowns_few : v ≤ most_unknowns
     unknowns_few = omega (arith, ev.same, (in_range d (tested d sound)).unknowns)
 
     running : byte_at d clash_at ≡ 0
-    running = sym ec.same ∙ zc
+    running = eqb-true (byte_at d clash_at) 0 (runs (eqb (byte_at d clash_at) 0) (sym ec ∙ zc))
 
     nothing_pending : count_of d ≡ 0
     nothing_pending = go over
@@ -156,13 +150,16 @@ module _ (d : List ℕ) (long : length d ≡ run_bytes) (sound : sound_bytes d �
         go (inl h) = absurd (let y : ⊥ = omega (arith, running, h) in y)
         go (inr h) = h.empty
 
-    module _ (m0 : List ℕ) (lm : length m0 ≡ map_bytes) (r : ℕ) (m1 : List ℕ) (em : mapped r m1 ≡ map_bytes_of d m0) where
+    module _ (m0 : List ℕ) (lm : length m0 ≡ map_bytes) (r : Result (Unit {0}) Refusal) (m1 : List ℕ) (em : told r m1 ≡ map_bytes_of d m0) where
+      its_bytes : (r' : Result (Unit {0}) Refusal) (m : List ℕ) → told r' m1 ≡ mapped 0 m → m1 ≡ m
+      its_bytes (Ok u) m e = cc
+      its_bytes (Err e') m e = cc
+
       map_is : m1 ≡ map_of (table_of d) (run_of d)
       unfolding map_bytes_of drawn_map
       map_is =
-          let g : mapped r m1 ≡ mapped 0 (map_of (table_of d) (run_of d)) =
-          em ∙ rw (eq-eqb (length d) run_bytes long, eq-eqb (length m0) map_bytes lm, sound, eq-eqb (byte_at d clash_at) 0 running, eq-eqb (count_of d) 0 nothing_pending) refl in
-          cc
+          its_bytes r (map_of (table_of d) (run_of d))
+          (em ∙ rw (eq-eqb (length d) run_bytes long, eq-eqb (length m0) map_bytes lm, sound, eq-eqb (byte_at d clash_at) 0 running, eq-eqb (count_of d) 0 nothing_pending) refl)
 
       pub items_printed : ((i : ℕ) → byte_at d i < 256) → (o o' : List ℕ) (n : ℕ) → PutFrom 0 (map_printed m1 v) o o' n
           → PutFrom 0 (printed_run (table_of d) (run_of d) (clash_of d)) o o' n

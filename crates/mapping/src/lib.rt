@@ -15,8 +15,7 @@ ghost use Rattle.mapping.specs.Streams.{Prints};
 ghost use Rattle.printing.specs.Prints.{most_printed};
 
 use layout::Run;
-use paper::sizes;
-use statements::LoadReply;
+use paper::{Fault, sizes};
 use std::io;
 use std::io::{Input, Print, Read, Write};
 
@@ -33,26 +32,22 @@ fn print_run(run: &Run, out: &mut [u8]) -> usize
     requires room { most_printed ≤ length out.old }
     ensures { PutFrom 0 (printed_run (table_of run.now) (run_of run.now) (clash_of run.now)) out.old out.new result }
 {
-    if layout::clash_byte(run) != 0 {
+    if layout::has_clashed(run) {
         return printing::print_clash(out);
     }
-    let v = layout::unknowns(run);
+    // It is not refused: the run is sound and at its end, and has not clashed.
     let mut map = [0u8; layout::MAP_BYTES];
-    maps::map(run, &mut map);
-    printing::print_map(&map, v, out)
+    let _ = maps::map(run, &mut map);
+    printing::print_map(&map, layout::unknowns(run), out)
 }
 
-// The file into the run, and the run to its end; gives the reply to loading.
-fn run_file(file: &[u8], run: &mut Run) -> LoadReply
-    ensures { Ran file.now result.number result.position run.new }
+// The file into the run, and the run to its end.
+fn run_file(file: &[u8], run: &mut Run) -> Result<(), Fault>
+    ensures { Ran file.now result run.new }
 {
-    let reply = statements::load(file, run);
-    let number = reply.number;
-    if number != 0 {
-        return reply;
-    }
+    statements::load(file, run)?;
     drawing::draw(run);
-    reply
+    Ok(())
 }
 
 // What is printed of a file, into `out`; gives its length.
@@ -61,11 +56,10 @@ fn print(file: &[u8], out: &mut [u8]) -> usize
     ensures { PutFrom 0 (printed file.now) out.old out.new result }
 {
     let mut run = [0u8; layout::RUN_BYTES];
-    let reply = run_file(file, &mut run);
-    if reply.number != 0 {
-        return printing::print_refusal(out, reply.number, reply.position);
+    match run_file(file, &mut run) {
+        Ok(()) => print_run(&run, out),
+        Err(fault) => printing::print_refusal(out, fault.refusal.into(), fault.at),
     }
-    print_run(&run, out)
 }
 
 // Writes what is printed of a file; gives the text's length. An error of the writer is handed on: some of the text may be written.

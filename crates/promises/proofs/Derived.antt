@@ -15,7 +15,8 @@ use Rattle.paper.specs.Tables.{Table}
 use Rattle.paper.specs.Runs.{Statement, Run}
 use Rattle.paper.specs.Rules.{Carried}
 use Rattle.paper.specs.Steps.{done, step}
-use Rattle.paper.specs.Files.{File, Read, got, fault, read_file, file_bytes, padded_file, each}
+use Rattle.paper.specs.Numbers.{Read, got, fault}
+use Rattle.paper.specs.Files.{File, read_file, file_bytes, padded_file, each}
 use Rattle.paper.specs.Reached.{Finished}
 use Rattle.paper.specs.Maps.{Row, IsRow, map_row, rows_from, map_rows}
 use Rattle.paper.proofs.StepIsRule.{done_is_rule, one_rule as only_rule}

@@ -14,7 +14,8 @@ use Rattle.base.specs.Choice.{pick}
 use Rattle.base.proofs.Tests.{fst_true}
 use Rattle.paper.specs.Sizes.{longest_file}
 use Rattle.paper.specs.Steps.{Outcome, step, Listed, steps}
-use Rattle.paper.specs.Files.{File, Read, got, fault, read_file, file_bytes, padded_file, Span}
+use Rattle.paper.specs.Numbers.{Read, got, fault}
+use Rattle.paper.specs.Files.{File, read_file, file_bytes, padded_file, Span}
 use Rattle.paper.specs.Replies.{Reply, reply, checked, load_reply, step_reply, list_reply, map_number, map_reply, write_reply}
 use Rattle.layout.specs.Offsets.{clash_at, clash_cabinet_at, run_bytes, map_bytes}
 use Rattle.layout.specs.Fields.{byte_at, count_of, items_from, table_of, state_of, run_of}

@@ -14,7 +14,8 @@ use Rattle.paper.specs.Refusals.{no_room, no_such_place, has_clashed}
 use Rattle.paper.specs.Tables.{Table}
 use Rattle.paper.specs.Runs.{Sound}
 use Rattle.paper.specs.Steps.{refused, done, step, Listed, listed, steps}
-use Rattle.paper.specs.Files.{File, got, read_file}
+use Rattle.paper.specs.Numbers.{got}
+use Rattle.paper.specs.Files.{File, read_file}
 use Rattle.paper.specs.Reached as paper
 use Rattle.paper.specs.Reached.{FileOk, Reached}
 use Rattle.paper.proofs.Soundness.{loaded_sound}

@@ -15,7 +15,8 @@ use Rattle.paper.specs.Sizes.{longest_file}
 use Rattle.paper.specs.Tables.{Table}
 use Rattle.paper.specs.Runs.{Run, initial}
 use Rattle.paper.specs.Steps.{refused, done, step, Listed, listed, steps}
-use Rattle.paper.specs.Files.{got, read_file, file_bytes, padded_file, statement_part}
+use Rattle.paper.specs.Numbers.{got}
+use Rattle.paper.specs.Files.{read_file, file_bytes, padded_file, statement_part}
 use Rattle.paper.specs.Reached.{FileOk, Finished}
 use Rattle.paper.specs.Maps.{map_rows}
 use Rattle.paper.specs.Vectors.{clash_file, ring_file, empty_file, clash_run}

@@ -6,7 +6,8 @@ use Rattle.std.proofs.Math.ListN.{get_elem?}
 pub use Rattle.base.specs.Lists.{Bytes}
 use Rattle.paper.specs.Tables.{Table}
 use Rattle.paper.specs.Runs.{Statement}
-use Rattle.paper.specs.Files.{File, got, read_file, each}
+use Rattle.paper.specs.Numbers.{got}
+use Rattle.paper.specs.Files.{File, read_file, each}
 use Rattle.paper.specs.Maps.{Row, IsRow}
 use Rattle.layout.specs.Offsets.{clash_at, row_bytes, map_bytes}
 use Rattle.layout.specs.Fields.{byte_at, count_of}

@@ -1,13 +1,11 @@
--- `print` meets its contract: one law of what was made of the file for each way out.
-use Rattle.mapping.proofs.PrintLaws.{refused_printed, ran_sound, ran_over, run_printed}
-use borrow.Author.Rules.{rules}
+-- `print` meets its contract: an accepted file prints what its run prints, and a refused one its refusal.
 use Rattle.mapping.proofs.print.Goals as goal
 
-pub returns-then-reply-ne0 : goal.returns-then-reply-ne0
-returns-then-reply-ne0 c = search refused_printed
-
 pub print_run-requires : goal.print_run-requires
-print_run-requires c = record { sound = search ran_sound; over = search ran_over; room = search rules }
+print_run-requires c = record { sound = c.in-Ok.ensures.sound; over = c.in-Ok.ensures.over; room = c.requires }
 
-pub returns : goal.returns
-returns c = search run_printed
+pub returns-in-Ok : goal.returns-in-Ok
+returns-in-Ok c = rw c.in-Ok.ensures.text c.print_run.ensures
+
+pub returns-in-Err : goal.returns-in-Err
+returns-in-Err c = rw c.in-Err.ensures c.print_refusal.ensures

@@ -3,8 +3,8 @@ use Rattle.mapping.proofs.PrintLaws.{clash_printed, unknowns_few, items_printed}
 use borrow.Author.Rules.{rules}
 use Rattle.mapping.proofs.print_run.Goals as goal
 
-pub returns-then-clash_byte-ne0 : goal.returns-then-clash_byte-ne0
-returns-then-clash_byte-ne0 c = search clash_printed
+pub returns-then-has_clashed : goal.returns-then-has_clashed
+returns-then-has_clashed c = search clash_printed
 
 pub print_map-requires : goal.print_map-requires
 print_map-requires c = record { known = search unknowns_few; room = search rules }
