@@ -24,7 +24,8 @@ use Rattle.layout.specs.Soundness.{sound_bytes}
 use Rattle.layout.proofs.SoundViews.{tested, in_range}
 use Rattle.layout.proofs.Putting.{put_long}
 use Rattle.statements.specs.declared.writing.Writer.{Writer}
-use Rattle.statements.specs.Writes.{as_loaded, statement_at, file_of, HasRoom, Wrote, answer, written_bytes}
+use Rattle.statements.specs.Pieces.{HasRoom, Wrote}
+use Rattle.statements.specs.Writes.{as_loaded, statement_at, file_of, answer, written_bytes}
 use Rattle.statements.proofs.WritePieces.{first_room, then_room, then_wrote}
 use Rattle.statements.proofs.BothWays.{own_file_ok}
 

@@ -22,7 +22,8 @@ use Rattle.layout.specs.Offsets.{run_bytes, item_from}
 use Rattle.layout.proofs.SoundViews.{tested, shaped}
 use Rattle.layout.proofs.Putting.{EachTo, none_put, all_put, one_fits, one_put, put_long, then_put}
 use Rattle.statements.specs.declared.writing.Writer.{Writer}
-use Rattle.statements.specs.Writes.{all_statements, statement_at, HasRoom, Wrote}
+use Rattle.statements.specs.Pieces.{HasRoom, Wrote}
+use Rattle.statements.specs.Writes.{all_statements, statement_at}
 use Rattle.statements.proofs.AsLoaded.{kind_1}
 
 -- a loop over items that are to be statements: it stops, goes on, or has passed all

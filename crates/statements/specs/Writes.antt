@@ -1,8 +1,7 @@
 -- What writing takes from a run's bytes: when a sound run is as loaded, the file that it is, and what the call leaves.
-use Rattle.std.specs.Prelude.{◌≡◌, Bool, ◌&&◌, List, ℕ, ◌+◌, ◌-◌, ◌≤◌, Result, Ok, Err, eqb, length}
+use Rattle.std.specs.Prelude.{Bool, ◌&&◌, List, ℕ, ◌+◌, ◌-◌, Result, Ok, Err, eqb, length}
 use Rattle.base.specs.Choice.{pick, all_below}
 use Rattle.base.specs.Lists.{list_from}
-use Rattle.base.specs.Puts.{PutFrom}
 use Rattle.paper.specs.Sizes.{longest_file}
 use Rattle.paper.specs.Refusals.{wrong_length, not_sound, not_as_loaded, refusal_number}
 use Rattle.paper.specs.declared.refused.Refusal.{Refusal}
@@ -13,7 +12,6 @@ use Rattle.paper.specs.Files.{File, file_bytes, padded_file, read_file}
 use Rattle.layout.specs.Offsets.{clash_at, statements_at, owners_at, memos_at, pending_at, run_bytes, item_from}
 use Rattle.layout.specs.Fields.{byte_at, count_of, table_of}
 use Rattle.layout.specs.Soundness.{all_are, sound_bytes}
-use Rattle.statements.specs.declared.writing.Writer.{Writer}
 use Rattle.statements.specs.Loads.{loaded_bytes}
 
 -- the first n items are statements
@@ -34,15 +32,6 @@ statement_at d p = record { cabinet = byte_at d (item_from p + 1); left = byte_a
 -- the file that an as-loaded run is
 unfoldable pub file_of : List ℕ → File
 file_of d = record { table = table_of d; statements = list_from (statement_at d) (byte_at d statements_at) 0 }
-
--- room for the bytes bs where the writer stands
-pub record HasRoom (bs : List ℕ) (w : Writer) : Type 0 where
-  pub fits : w.at + length bs ≤ length w.file.now
-
--- the bytes bs put where the writer stood, which now stands after them, in the same file
-pub record Wrote (bs : List ℕ) (before after : Writer) : Type 0 where
-  pub put : PutFrom before.at bs before.file.now after.file.now after.at
-  pub same_file : after.file.ghost_name ≡ before.file.ghost_name
 
 -- number (0 for done, else the refusal), position or length, and the bytes of the lent buffer
 pub data Answer : Type 0 where

@@ -12,7 +12,8 @@ use layout::Run;
 use paper::{Fault, Found, Item, Refusal};
 use reading::{StatementRead, check_file, read_record, read_statement};
 
-// The `count` records at `at` of the file, with v unknowns, as the run's first ones. They were read before, so each is read again.
+// The `count` records at `at` of the file, with v unknowns, as the run's first ones. They were read before, so that no read of
+// them can be refused: it is proved where `unwrap` asks it.
 fn fill_records(run: &mut Run, file: &[u8], at: usize, v: usize, count: usize)
     requires { (v ≤ most_unknowns) × (count ≤ most_records) × WasRead (reading (times count (record_form v)) file.now at) }
     ensures { run.new ≡ with_records 0 (list_of (reading (times count (record_form v)) file.now at)) run.old }
@@ -26,7 +27,7 @@ fn fill_records(run: &mut Run, file: &[u8], at: usize, v: usize, count: usize)
 }
 
 // The `count` statements at `at` of the file, with s cabinets and n entries, as the run's last pending items. They were read
-// before, so each is read again.
+// before too.
 fn fill_statements(run: &mut Run, file: &[u8], at: usize, s: usize, n: usize, count: usize)
     requires { (count_of run.old + count ≤ room) × (s ≤ most_cabinets) × (n ≤ most_unknowns + most_records) × WasRead (reading (times count (statement_form_of s n)) file.now at) }
     ensures { run.new ≡ appended_all (map as_item (list_of (reading (times count (statement_form_of s n)) file.now at))) run.old }

@@ -5,7 +5,8 @@ ghost use Rattle.paper.specs.Numbers.{number_bytes};
 ghost use Rattle.paper.specs.Files.{record_bytes, statement_bytes, table_bytes, file_bytes, padded_file};
 ghost use Rattle.layout.specs.Fields.{part_count_of, record_of, table_of};
 ghost use Rattle.layout.specs.Soundness.{sound_bytes};
-ghost use Rattle.statements.specs.Writes.{all_statements, as_loaded, statement_at, file_of, HasRoom, Wrote, write_answer, written_bytes};
+ghost use Rattle.statements.specs.Pieces.{HasRoom, Wrote};
+ghost use Rattle.statements.specs.Writes.{all_statements, as_loaded, statement_at, file_of, write_answer, written_bytes};
 
 use layout::Run;
 use paper::{Item, Refusal, sizes};

@@ -1,7 +1,7 @@
 -- `table` meets its contract: one law of the table for what each callee asks, and one of its records for the loop.
 use Rattle.paper.specs.Files.{each, record_bytes}
 use Rattle.layout.specs.Fields.{records_from}
-use Rattle.statements.specs.Writes.{HasRoom}
+use Rattle.statements.specs.Pieces.{HasRoom}
 use Rattle.statements.proofs.WritePieces.{byte_number, none_wrote, all_wrote, one_room, one_wrote, record_parts_few}
 use Rattle.statements.proofs.WriteCalls.{s_room, v_room, r_room, records_room, records_few, table_wrote}
 use mathlib.Core.Path.{refl}
