@@ -169,9 +169,9 @@ pub fn pair_at(run: &Run, c: usize, x: usize, y: usize) -> usize
 }
 
 // The marks that are no entry: nothing, and, in stores only, initiated.
-pub const NOTHING: u8 = 255;
+const NOTHING: u8 = 255;
 
-pub const INITIATED: u8 = 254;
+const INITIATED: u8 = 254;
 
 // What a store has for an unknown.
 #[derive(Clone, Copy)]

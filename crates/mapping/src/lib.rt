@@ -58,7 +58,7 @@ fn print(file: &[u8], out: &mut [u8]) -> usize
     let mut run = [0u8; layout::RUN_BYTES];
     match run_file(file, &mut run) {
         Ok(()) => print_run(&run, out),
-        Err(fault) => printing::print_refusal(out, fault.refusal.into(), fault.at),
+        Err(fault) => printing::print_refusal(out, usize::from(fault.refusal), fault.at),
     }
 }
 

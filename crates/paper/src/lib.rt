@@ -1,8 +1,7 @@
 // Document 01 in definitions (specs/) and what is true of them (proofs/). The code here is what the crates above share: what is
-// found or refused, and an item, which the definitions have too, and the numbers.
+// found or refused, a pending item, and the sizes.
 #![tactic(auto)]
 
-pub mod refusal; // refusal.rt: the refusal numbers
 mod refused; // refused.rt: what is refused, and where
 pub mod sizes; // sizes.rt: limits and sizes
 
