@@ -1,16 +1,15 @@
--- Laws of regions: lengths, what stands at each index, what a write to a part of a slice, a move and a loop that copies in leave,
+-- Laws of regions: lengths, what stands at each index, what a write to a part of a slice and a loop that moves or copies in leave,
 -- and put against get.
 use Prim.Native.Nat.{ℕ, suc, ◌+◌, ◌-◌, ◌≤◌, ◌<◌}
 use mathlib.Core.Path.{◌≡◌, refl, sym, ap, subst, ◌∙◌}
 use mathlib.Core.Logic.{◌⊎◌, inl, inr}
 use mathlib.Core.List.{List, ◌++◌}
 use borrow.Rule.Slice.PartMut.{put_mid}
-use Rattle.std.specs.List.{copy_within}
 use Rattle.std.proofs.lemmas.Slice.{put_mid-paste}
 use lib.ListN.{length, get_or, take, drop, set, length-append, length-take, length-drop, length-set, get_or-append, replicate, length-replicate, get_or-replicate}
 use lib.Seq.{length-take-le, get_or-take, get_or-drop, get_or-append-add, ext_get_or, get_or-set_same, get_or-set_other, paste, paste-zero, paste-suc, take_all}
 use native.Mathlib.Numerals.{add-one}
-use native.Mathlib.Nat.{add-sub_of_le}
+use native.Mathlib.Nat.{add-sub_of_le, sub_self}
 use native.Mathlib.Decide.{dec_lt, ℕ_discrete}
 use native.Mathlib.Omega.{arith}
 use Rattle.base.specs.Regions.{put, get, shifted, gone}
@@ -96,13 +95,42 @@ module _ (w at i : ℕ) (d : List ℕ) (low : at ≤ i) (high : i + w ≤ length
       (put_in at (get (at + w) (i - at) d) d (rw moved_length (omega arith)) (k - at) (rw moved_length (omega arith))
       ∙ get_at (at + w) (i - at) d (omega arith) (k - at) (omega arith) ∙ ap (λ (m : ℕ). get_or d m 0) f)
 
--- the move that closes a gap, and then the zeros
-pub gap_closed : (w at e : ℕ) (d moved out : List ℕ) → at + w ≤ e → e ≤ length d → moved ≡ copy_within d (at + w) e at
-    → out ≡ put (e - w) (replicate w 0) moved → out ≡ gone w at e d
+shift_none : (w at : ℕ) (d : List ℕ) → at + w ≤ length d → d ≡ shifted w at at d
+shift_none w at d h = paste-zero d at (drop (at + w) d) ∙ ap (paste d at (drop (at + w) d)) (sym (sub_self at)) ∙ sym (shifted_paste w at at d (omega arith) h)
+
+shift_step : (w at i : ℕ) (d : List ℕ) → at ≤ i → i + w < length d
+    → set (shifted w at i d) i (get_or (shifted w at i d) (i + w) 0) ≡ shifted w at (i + 1) d
+shift_step w at i d h1 h2 =
+    let s : List ℕ = drop (at + w) d in
+    let e : at + (i - at) ≡ i = omega arith in
+    let f : i + w ≡ at + w + (i - at) = omega arith in
+    let n : suc (i - at) ≡ i + 1 - at = omega arith in
+    let v : get_or (shifted w at i d) (i + w) 0 ≡ get_or s (i - at) 0 =
+    shifted_after w at i d h1 (omega arith) (i + w) (omega arith) ∙ ap (λ (m : ℕ). get_or d m 0) f ∙ sym (get_or-drop (at + w) d (i - at) 0) in
+    rw v
+    (rw (shifted_paste w at i d h1 (omega arith), shifted_paste w at (i + 1) d (omega arith) (omega arith))
+    (subst (λ (m : ℕ). set (paste d at s (i - at)) m (get_or s (i - at) 0) ≡ paste d at s (i + 1 - at)) e
+    (paste-suc d at s (i - at) 0 (omega arith) (rw length-drop (omega arith)) ∙ ap (paste d at s) n)))
+
+-- what a loop that closes a gap asks, with premises as they stand in code: i bytes have moved
+pub shift_start : (w at : ℕ) (d : List ℕ) → at + w ≤ length d → d ≡ shifted w at (at + 0) d
+shift_start w at d h = let z : at ≡ at + 0 = omega arith in subst (λ (m : ℕ). d ≡ shifted w at m d) z (shift_none w at d h)
+
+pub shift_again : (w at i e : ℕ) (d run : List ℕ) → i < e - w - at → e ≤ length d → run ≡ shifted w at (at + i) d
+    → set run (at + i) (get_or run (at + w + i) 0) ≡ shifted w at (at + (i + 1)) d
+shift_again w at i e d run h1 h2 q =
+    let a : at + i + w ≡ at + w + i = omega arith in
+    let b : at + i + 1 ≡ at + (i + 1) = omega arith in
+    subst (λ (m : ℕ). set run (at + i) (get_or run m 0) ≡ shifted w at (at + (i + 1)) d) a
+    (subst (λ (m : ℕ). set run (at + i) (get_or run (at + i + w) 0) ≡ shifted w at m d) b
+    (rw q (shift_step w at (at + i) d (omega arith) (omega arith))))
+
+pub gone_made : (w at i e : ℕ) (d run out : List ℕ) → at + w ≤ e → i ≤ e - w - at → e - w - at ≤ i → run ≡ shifted w at (at + i) d
+    → out ≡ put (e - w) (replicate w 0) run → out ≡ gone w at e d
 unfolding gone
-gap_closed w at e d moved out h k m o =
-    let n : e - (at + w) ≡ e - w - at = omega arith in
-    o ∙ ap (put (e - w) (replicate w 0)) (m ∙ ap (paste d at (drop (at + w) d)) n ∙ sym (shifted_paste w at (e - w) d (omega arith) (omega arith)))
+gone_made w at i e d run out h h1 h2 q o =
+    let n : at + i ≡ e - w = omega arith in
+    o ∙ ap (put (e - w) (replicate w 0)) (q ∙ ap (λ (m : ℕ). shifted w at m d) n)
 
 -- a gap that was closed
 module _ (w at e : ℕ) (d : List ℕ) (low : at + w ≤ e) (high : e ≤ length d) where
