@@ -8,14 +8,12 @@ use native.Mathlib.Numerals.{add-one}
 use native.Mathlib.Omega.{arith}
 use borrow.Author.Tests.{ne_eqb, eqb-true}
 use lib.Dec.{eqb}
-use lib.ListN.{replicate}
 use Rattle.std.specs.Prelude.{Option, Some, None, is_some}
 use Rattle.std.specs.Bool.{then_some}
 use Rattle.base.specs.Choice.{pick}
 use Rattle.base.specs.Lists.{list_from, Bytes}
 use Rattle.base.proofs.Tests.{snd_true}
 use Rattle.base.proofs.Regions.{lt_or_le}
-use Rattle.paper.specs.Sizes.{most_unknowns}
 use Rattle.paper.specs.Tables.{same_head}
 use Rattle.paper.specs.Ends.{End, at_open, at_record, agree, is_met, meeting, Unknowns, same, already, opens, left_open, right_open, differ, records, Parts, over, apart, on}
 use Rattle.paper.proofs.Chains.{end_low}
@@ -33,7 +31,7 @@ use Rattle.agreement.specs.Met.{met_of, settled_in}
 use Rattle.agreement.specs.Agreed.{UnknownsApart, UnknownsAgree, PartsApart, PartsAgree}
 use Rattle.agreement.proofs.Ranges.{tests}
 use Rattle.agreement.proofs.Chains.{open_end, record_end}
-use Rattle.agreement.proofs.MetTable.{two_unknowns, not_met, none_met}
+use Rattle.agreement.proofs.MetTable.{two_unknowns, not_met}
 
 abbrev Table : Type 0
 Table = ℕ → ℕ → Bool
@@ -175,19 +173,19 @@ unfolding table_of
 unknowns_are d v g = g.unknowns
 
 -- asked with no pair met, the answer is agreement to depth V
-none_met_answers : (d : List ℕ) (v x y : ℕ) (s : Bool) (m : Table) → Unknowns (ends_of d) x y (met_of (replicate most_unknowns 0)) s m
+none_met_answers : (d : List ℕ) (v x y : ℕ) (s : Bool) (m : Table) → Unknowns (ends_of d) x y (λ p q. false) s m
     → SoundRun d v → Bytes d → x < v → y < v → s ≡ agree (ends_of d) v x y
-none_met_answers d v x y s m u g b hx hy = met_pairs_answer_depth_V (ends_of d) v (λ z h. low z) (rw none_met at u) hx hy
+none_met_answers d v x y s m u g b hx hy = met_pairs_answer_depth_V (ends_of d) v (λ z h. low z) u hx hy
   where
     low : (z : ℕ) → LowEnd v (ends_of d z)
     low z = rw (unknowns_are d v g) (end_low (table_of d) (owner_of d) (table_ok d g.long (tests d v g) b) z)
 
 pub one_agrees : (d : List ℕ) (v x y : ℕ) → x ≡ y → SoundRun d v → Bytes d → x < v → y < v → true ≡ agree (ends_of d) v x y
 one_agrees d v x y e g f hx hy =
-    let m : Table = met_of (replicate most_unknowns 0) in
+    let m : Table = λ p q. false in
     none_met_answers d v x y true m (subst (λ (z : ℕ). Unknowns (ends_of d) x z m true m) e same) g f hx hy
 
-pub asked_answers : (d : List ℕ) (v x y : ℕ) (o : Option Met) → UnknownsAgree (ends_of d) x y (met_of (replicate most_unknowns 0)) o
+pub asked_answers : (d : List ℕ) (v x y : ℕ) (o : Option Met) (m : Table) → m ≡ (λ p q. false) → UnknownsAgree (ends_of d) x y m o
     → SoundRun d v → Bytes d → x < v → y < v → is_some o ≡ agree (ends_of d) v x y
-asked_answers d v x y None u g f hx hy = none_met_answers d v x y false u.after u.is g f hx hy
-asked_answers d v x y (Some after) u g f hx hy = none_met_answers d v x y true (met_of after.words) u g f hx hy
+asked_answers d v x y None m e u g f hx hy = none_met_answers d v x y false u.after (rw e at u.is) g f hx hy
+asked_answers d v x y (Some after) m e u g f hx hy = none_met_answers d v x y true (met_of after.words) (rw e at u) g f hx hy

@@ -72,6 +72,6 @@ none_met n = fun_ext λ p. fun_ext λ q. rw (zero_word p, bit_at-zero q) refl
         ⊎_elim (λ (l : p < n). get_or-replicate n p 0 0 l)
         (λ (l : n ≤ p). get_or-eq_default (replicate n 0) 0 {n = p} (omega (arith, length-replicate {A = ℕ} n 0))) (lt_or_le p n)
 
-pub none_settled : (n x y : ℕ) → (x ≡ y → ⊥) → settled_in (met_of (replicate n 0)) x y ≡ false
+pub none_settled : (m : ℕ → ℕ → Bool) (x y : ℕ) → m ≡ (λ p q. false) → (x ≡ y → ⊥) → settled_in m x y ≡ false
 unfolding settled_in
-none_settled n x y d = rw (ne_eqb x y d, none_met n) refl
+none_settled m x y e d = rw (ne_eqb x y d, e) refl

@@ -19,7 +19,7 @@ pub struct RunEnds<'a> {
     pub ghost followed: { AllEnd run.now unknowns ends },
 }
 
-// The entry at which the owner marks from x on end: an unknown without one, or a record.
+// The entry at which the owner marks from x on end: an unknown without one, or a record. Document 01 names the recursion.
 fn end_of(run: &Run, v: usize, x: usize) -> usize
     requires { SoundRun run.now v × (x < v) }
     ensures { EndsAt run.now x result }
@@ -34,7 +34,8 @@ fn end_of(run: &Run, v: usize, x: usize) -> usize
 }
 
 impl<'a> RunEnds<'a> {
-    // The owner marks of each unknown followed.
+    // The owner marks of each unknown followed. The loop is over the place, since its invariant speaks of the first x; `as` is proved to lose
+    // nothing, where a TryFrom would have an Err that gives up.
     pub fn of(run: &'a Run) -> Self
         requires { sound_bytes run.now ≡ true }
         ensures { result.run.now ≡ run.now }

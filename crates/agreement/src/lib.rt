@@ -1,5 +1,5 @@
 // Whether two unknowns agree: one function on unknowns and one on part lists call each other, and the table of met pairs goes
-// from call to call by value.
+// from call to call by value, as document 01 has it.
 #![tactic(auto)]
 
 mod ends; // ends.rt: owner marks followed to their end
@@ -16,7 +16,6 @@ ghost use Rattle.agreement.specs.Agreed.{UnknownsAgree, PartsAgree};
 
 pub use ends::RunEnds;
 use met::Met;
-use paper::sizes::MOST_UNKNOWNS;
 
 // The table after, if x and y agree, two unknowns that were not met before: they are now, and their ends are compared.
 #[cycle(agree_parts_agree_unknowns)]
@@ -42,7 +41,8 @@ fn agree_unknowns(ends: &RunEnds, x: usize, y: usize, met: Met) -> Option<Met>
     agree_parts(ends, a - v, b - v, n, next)
 }
 
-// The table after, if the parts of records i and k, n each, agree. The table is not copied for a pair that is not to be compared.
+// The table after, if the parts of records i and k, n each, agree. The table is not copied for a pair that is not to be compared. The parts
+// are read by one index, since what is promised after j turns is of the first j parts of both.
 #[cycle(agree_parts_agree_unknowns)]
 fn agree_parts(ends: &RunEnds, i: usize, k: usize, n: usize, met: Met) -> Option<Met>
     requires { OneRecord ends.now.run.now ends.now.unknowns i n × OneRecord ends.now.run.now ends.now.unknowns k n }
@@ -66,9 +66,6 @@ impl<'a> RunEnds<'a> {
         requires { (x < self.now.unknowns) × (y < self.now.unknowns) }
         ensures { result ≡ agree (ends_of self.now.run.now) self.now.unknowns x y }
     {
-        let none = Met {
-            words: [0; MOST_UNKNOWNS],
-        };
-        x == y || agree_unknowns(self, x, y, none).is_some()
+        x == y || agree_unknowns(self, x, y, Met::new()).is_some()
     }
 }
