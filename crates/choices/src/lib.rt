@@ -11,16 +11,10 @@ ghost use Rattle.choices.specs.Choices.{less_in, choice_by_mark, choice_by_recor
 ghost use Rattle.choices.specs.Given.{StatementIn};
 
 use layout::{Mark, Run, Store};
+use paper::Statement;
 
-// A pending statement left = right at a cabinet.
-#[derive(Clone, Copy)]
-pub struct Statement {
-    pub cabinet: u8,
-    pub left: u8,
-    pub right: u8,
-}
-
-// What a statement does at its cabinet, by its store and memo. `Dereference` carries the entry that the store has.
+// What a statement does at its cabinet, by its store and memo. `Dereference` carries the entry that the store has. `Waits` is one
+// of the choices, and no None: in document 01 a statement waits by its store's mark, as it is carried out by it.
 #[derive(Clone, Copy)]
 pub enum Choice {
     Waits,
@@ -40,23 +34,25 @@ fn less(v: usize, u: usize, x: usize) -> bool
     x < v && (u >= v || u < x)
 }
 
-// Whether the pair of x and u is in the memo of cabinet c. Looked up for two unknowns alone.
-fn met(run: &Run, v: usize, c: usize, x: usize, u: usize) -> bool
-    requires { (v ≤ most_unknowns) × (c < most_cabinets) × (x < v) }
-    ensures { result ≡ (ltb u v && eqb (byte_at run.now (memo_from c x u)) 1) }
+// Whether the pair of the sides is in the memo of the statement's cabinet. Looked up for two unknowns alone.
+fn met(run: &Run, v: usize, s: Statement) -> bool
+    requires { (v ≤ most_unknowns) × (s.cabinet < most_cabinets) × (s.left < v) }
+    ensures { result ≡ (ltb s.right v && eqb (byte_at run.now (memo_from s.cabinet s.left s.right)) 1) }
 {
-    u < v && layout::pair_at(run, c, x, u) == 1
+    let left = usize::from(s.left);
+    let right = usize::from(s.right);
+    right < v && layout::pair_at(run, usize::from(s.cabinet), left, right) == 1
 }
 
-// The choice for x = u, u less than x, by the mark of x in the store of cabinet c.
-fn by_mark(run: &Run, store: Store, v: usize, c: usize, x: usize, u: usize) -> Choice
-    requires { (v ≤ most_unknowns) × (c < most_cabinets) × (x < v) }
-    ensures { result ≡ choice_by_mark v run.now c x u (get_or store.marks x 0) }
+// The choice for a statement whose right side is less than its left, by the mark of the left in its cabinet's store.
+fn by_mark(run: &Run, store: Store, v: usize, s: Statement) -> Choice
+    requires { (v ≤ most_unknowns) × (s.cabinet < most_cabinets) × (s.left < v) }
+    ensures { result ≡ choice_by_mark v run.now s.cabinet s.left s.right (get_or store.marks s.left 0) }
 {
-    match store.mark(x) {
+    match store.mark(usize::from(s.left)) {
         Mark::Nothing => Choice::Initiate,
         Mark::Initiated => Choice::Waits,
-        Mark::Entry(_) if met(run, v, c, x, u) => Choice::Memo,
+        Mark::Entry(_) if met(run, v, s) => Choice::Memo,
         Mark::Entry(entry) => Choice::Dereference(entry),
     }
 }
@@ -86,7 +82,7 @@ pub fn choose(run: &Run, store: Store, s: Statement) -> Choice
     if less(v, a, b) {
         Choice::Interchange
     } else if less(v, b, a) {
-        by_mark(run, store, v, usize::from(s.cabinet), a, b)
+        by_mark(run, store, v, s)
     } else if a < v {
         Choice::Identify
     } else {

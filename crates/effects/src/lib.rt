@@ -14,9 +14,8 @@ ghost use Rattle.layout.specs.Changes.{removed_at, appended_all};
 ghost use Rattle.effects.specs.Changes.{left, nothing, owner, pair, clash, applied};
 ghost use Rattle.effects.specs.Given.{Fits};
 
-use choices::Statement;
 use layout::{Mark, Run, Store};
-use paper::{Item, sizes};
+use paper::{Item, Statement, sizes};
 
 // The memo of cabinet c gains the pair of x and u if u is an unknown.
 fn note_pair(run: &mut Run, c: u8, x: u8, u: u8)
@@ -44,12 +43,12 @@ pub fn interchange(run: &mut Run, store: Store, place: usize, s: Statement) -> S
     requires { Fits run.old place 1 }
     ensures { left result.marks run.new ≡ left store.marks (appended_all (statement s.cabinet s.right s.left ∷ []) (removed_at place run.old)) }
 {
-    let exchanged = Item::Statement {
-        cabinet: s.cabinet,
+    let exchanged = Statement {
         left: s.right,
         right: s.left,
+        ..s
     };
-    replace(run, place, &[exchanged]);
+    replace(run, place, &[Item::from(exchanged)]);
     store
 }
 
@@ -68,12 +67,8 @@ pub fn dereference(run: &mut Run, store: Store, place: usize, s: Statement, m: u
     ensures { left result.marks run.new ≡ left store.marks (appended_all (statement s.cabinet m s.right ∷ []) (removed_at place (applied (pick (ltb s.right (byte_at run.old unknowns_at)) (pair s.cabinet s.left s.right) nothing) run.old))) }
 {
     note_pair(run, s.cabinet, s.left, s.right);
-    let entry = Item::Statement {
-        cabinet: s.cabinet,
-        left: m,
-        right: s.right,
-    };
-    replace(run, place, &[entry]);
+    let onward = Statement { left: m, ..s };
+    replace(run, place, &[Item::from(onward)]);
     store
 }
 
@@ -106,12 +101,7 @@ pub fn initiate(run: &mut Run, store: Store, place: usize, s: Statement) -> Stor
         left: s.left,
         right: s.right,
     };
-    let again = Item::Statement {
-        cabinet: s.cabinet,
-        left: s.left,
-        right: s.right,
-    };
-    replace(run, place, &[ask, again]);
+    replace(run, place, &[ask, Item::from(s)]);
     store.marked(usize::from(s.left), Mark::Initiated)
 }
 

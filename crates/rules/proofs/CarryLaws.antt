@@ -23,7 +23,7 @@ use Rattle.choices.specs.declared.Choice.TheVariants.{Waits, Interchange, Memo, 
 use Rattle.choices.specs.Choices.{less_in, choice_by_mark, choice_by_records, choice_of}
 use Rattle.choices.specs.Given.{StatementIn}
 use Rattle.choices.proofs.ChoiceLaws.{greater_unknown, level_record}
-use Rattle.effects.specs.Changes.{Change, nothing, mark, pair, clash, Left, left}
+use Rattle.effects.specs.Changes.{Change, nothing, mark, pair, clash, applied, Left, left}
 use Rattle.effects.specs.Given.{Fits}
 use Rattle.effects.proofs.StoreLaws.{Local, put_back}
 use Rattle.rules.specs.Plans.{plan, parts_of, plan_of_choice}
@@ -110,9 +110,19 @@ few_parts d c a b i n r s h = omega (arith, r.same, s.parts i h)
 pub initiate_fits : (d : List ℕ) (a p : ℕ) (q : Choice) → q ≡ Initiate → Fits d p (product_count d a q) → Fits d p 2
 initiate_fits d a p q f h = rw f at h
 
--- what a decomposition gives back and leaves is what its plan says
-abbrev numbered : ℕ → Left → Done
+-- what a dereference or a decomposition gives back and leaves is what its plan says
+abbrev pub numbered : ℕ → Left → Done
 numbered k (left ms e) = done k ms e
+
+pub did_dereference : (marks ms d e : List ℕ) (p c a b m : ℕ) (q : Choice) → q ≡ Dereference m
+    → left ms e ≡ left marks (appended_all (Statement c m b ∷ []) (removed_at p (applied (pick (ltb b (byte_at d unknowns_at)) (pair c a b) nothing) d)))
+    → done 3 ms e ≡ done_bytes marks d p (plan_of_choice d c a b q)
+did_dereference marks ms d e p c a b m q f h = rw f (go (ltb b (byte_at d unknowns_at)) h)
+  where
+    go : (t : Bool) → left ms e ≡ left marks (appended_all (Statement c m b ∷ []) (removed_at p (applied (pick t (pair c a b) nothing) d)))
+        → done 3 ms e ≡ done_bytes marks d p (plan 3 (Statement c m b ∷ []) (pick t (pair c a b) nothing))
+    go true h = ap (numbered 3) h
+    go false h = ap (numbered 3) h
 
 pub did_decompose : (marks ms d e : List ℕ) (p c a b : ℕ) (q : Choice) (w n : ℕ) → q ≡ choice_of (byte_at d unknowns_at) d c a b → q ≡ Decompose → Reads (byte_at d unknowns_at) byte_limit w
     → Reads (part_count_of d (a - w)) byte_limit n

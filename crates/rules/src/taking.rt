@@ -17,9 +17,9 @@ ghost use Rattle.rules.specs.Results.{taken};
 ghost use Rattle.rules.specs.Given.{product_count, full_for, done_bytes, as_done, waits_in, waits_bytes};
 
 use super::numbered::Rule;
-use choices::{Choice, Statement};
+use choices::Choice;
 use layout::{Run, Store};
-use paper::{Item, Refusal, sizes};
+use paper::{Item, Refusal, Statement, sizes};
 
 // How many products a statement with the left side a has, by its choice; one that waits has none.
 fn products(run: &Run, a: u8, choice: Choice) -> usize
@@ -36,7 +36,7 @@ fn products(run: &Run, a: u8, choice: Choice) -> usize
 
 // Whether there is no room for n products once an item goes.
 #[tactic(auto, unfolding(crate::specs::Given::full_for))]
-fn full(run: &Run, n: usize) -> bool
+fn lacks_room(run: &Run, n: usize) -> bool
     requires { (0 < count_of run.now) × (n < byte_limit) }
     ensures { result ≡ full_for n run.now }
 {
@@ -61,43 +61,33 @@ fn by_choice(
     requires { StatementIn run.old s.cabinet s.left s.right × Fits run.old place (product_count run.old s.left choice) × (choice ≡ choice_of (byte_at run.old unknowns_at) run.old s.cabinet s.left s.right) }
     ensures { as_done result run.new ≡ done_bytes store.marks run.old place (plan_of_choice run.old s.cabinet s.left s.right choice) }
 {
-    match choice {
-        Choice::Waits => Err(Refusal::StillWaits),
-        Choice::Interchange => Ok(Carried {
-            rule: Rule::Interchange,
-            store: effects::interchange(run, store, place, s),
-        }),
-        Choice::Memo => Ok(Carried {
-            rule: Rule::Memo,
-            store: effects::memo(run, store, place),
-        }),
-        Choice::Dereference(m) => Ok(Carried {
-            rule: Rule::Dereference,
-            store: effects::dereference(run, store, place, s, m),
-        }),
-        Choice::Identify => Ok(Carried {
-            rule: Rule::Identify,
-            store: effects::identify(run, store, place),
-        }),
-        Choice::Conflict => Ok(Carried {
-            rule: Rule::Conflict,
-            store: effects::conflict(run, store, place, s.cabinet),
-        }),
+    let (rule, store) = match choice {
+        Choice::Waits => return Err(Refusal::StillWaits),
+        Choice::Interchange => (
+            Rule::Interchange,
+            effects::interchange(run, store, place, s),
+        ),
+        Choice::Memo => (Rule::Memo, effects::memo(run, store, place)),
+        Choice::Dereference(m) => (
+            Rule::Dereference,
+            effects::dereference(run, store, place, s, m),
+        ),
+        Choice::Identify => (Rule::Identify, effects::identify(run, store, place)),
+        Choice::Conflict => (
+            Rule::Conflict,
+            effects::conflict(run, store, place, s.cabinet),
+        ),
         Choice::Decompose => {
             let v = layout::unknowns(run);
             let i = usize::from(s.left) - v;
             let k = usize::from(s.right) - v;
             let n = layout::part_count(run, i);
-            Ok(Carried {
-                rule: Rule::Decompose,
-                store: effects::decompose(run, store, place, s.cabinet, i, k, n),
-            })
+            let store = effects::decompose(run, store, place, s.cabinet, i, k, n);
+            (Rule::Decompose, store)
         }
-        Choice::Initiate => Ok(Carried {
-            rule: Rule::Initiate,
-            store: effects::initiate(run, store, place, s),
-        }),
-    }
+        Choice::Initiate => (Rule::Initiate, effects::initiate(run, store, place, s)),
+    };
+    Ok(Carried { rule, store })
 }
 
 // A statement at `place`: its choice by its cabinet's store, 14 and 18, then its rule. What waits has no products, so that there is
@@ -109,7 +99,7 @@ fn take_statement(run: &mut Run, place: usize, s: Statement) -> Result<Rule, Ref
     let store = layout::load_store(run, usize::from(s.cabinet));
     let choice = choices::choose(run, store, s);
     let n = products(run, s.left, choice);
-    if full(run, n) {
+    if lacks_room(run, n) {
         return Err(Refusal::NoRoom);
     }
     let carried = by_choice(run, store, place, s, choice)?;
@@ -128,7 +118,7 @@ fn take_ask(run: &mut Run, place: usize, x: u8, u: u8) -> Result<Rule, Refusal>
         return Ok(Rule::Lose);
     }
     let s = layout::cabinets(run);
-    if full(run, s) {
+    if lacks_room(run, s) {
         return Err(Refusal::NoRoom);
     }
     effects::win(run, place, s, x, u);
@@ -141,8 +131,8 @@ fn take_news(run: &mut Run, place: usize, c: u8, x: u8, u: u8) -> Rule
     ensures { out 0 (rule_number result) run.new ≡ performed_bytes run.old place (plan 10 [] (mark c x u)) }
 {
     let store = layout::load_store(run, usize::from(c));
-    let told = effects::arrive(run, store, place, x, u);
-    layout::save_store(run, usize::from(c), told);
+    let store = effects::arrive(run, store, place, x, u);
+    layout::save_store(run, usize::from(c), store);
     Rule::Arrive
 }
 

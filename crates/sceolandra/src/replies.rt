@@ -24,7 +24,7 @@ impl From<Result<(), Fault>> for LoadReply {
                 position: 0,
             },
             Err(fault) => LoadReply {
-                number: fault.refusal.into(),
+                number: usize::from(fault.refusal),
                 position: fault.at,
             },
         }
@@ -46,10 +46,10 @@ impl From<Result<Rule, Refusal>> for StepReply {
         match taken {
             Ok(rule) => StepReply {
                 number: 0,
-                rule: rule.into(),
+                rule: usize::from(rule),
             },
             Err(refusal) => StepReply {
-                number: refusal.into(),
+                number: usize::from(refusal),
                 rule: 0,
             },
         }
@@ -71,7 +71,7 @@ impl From<Result<usize, Stopped>> for ListReply {
         match listed {
             Ok(done) => ListReply { number: 0, done },
             Err(stopped) => ListReply {
-                number: stopped.refusal.into(),
+                number: usize::from(stopped.refusal),
                 done: stopped.done,
             },
         }
@@ -92,7 +92,7 @@ impl From<Result<(), Refusal>> for MapReply {
         match mapped {
             Ok(()) => MapReply { number: 0 },
             Err(refusal) => MapReply {
-                number: refusal.into(),
+                number: usize::from(refusal),
             },
         }
     }
@@ -113,7 +113,7 @@ impl From<Result<usize, Refusal>> for WriteReply {
         match written {
             Ok(length) => WriteReply { number: 0, length },
             Err(refusal) => WriteReply {
-                number: refusal.into(),
+                number: usize::from(refusal),
                 length: 0,
             },
         }

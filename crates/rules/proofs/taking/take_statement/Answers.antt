@@ -7,8 +7,8 @@ use Rattle.rules.proofs.taking.take_statement.Goals as goal
 pub products-n-requires : goal.products-n-requires
 products-n-requires c = (search rules, search rules, search decompose_left)
 
-pub returns-then-full : goal.returns-then-full
-returns-then-full c = search statement_full
+pub returns-then-lacks_room : goal.returns-then-lacks_room
+returns-then-lacks_room c = search statement_full
 
 pub by_choice-requires : goal.by_choice-requires
 by_choice-requires c = (search rules, search statement_fits, search rules)
@@ -16,7 +16,7 @@ by_choice-requires c = (search rules, search statement_fits, search rules)
 pub returns : goal.returns
 returns c =
     let q = c.choose-choice.ensures in
-    let f = statement_fits _ _ _ _ _ _ q _ c.products-n.ensures _ c.full.ensures c.requires.1 c.if-full.false in
+    let f = statement_fits _ _ _ _ _ _ q _ c.products-n.ensures _ c.lacks_room.ensures c.requires.1 c.if-lacks_room.false in
     let h = c.in_ok-carried.ensures in
     let s = c.requires.0 in
     carried _ _ _ _ _ _ _ c.told-run s f q _ (search rules) c.load_store-store.ensures _ _ _ _ h _ (search rules) c.save_store.ensures
