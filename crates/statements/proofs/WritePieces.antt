@@ -8,7 +8,6 @@ use borrow.Author.Tests.{eq-eqb, ne_eqb}
 use lib.Dec.{eqb}
 use lib.ListN.{length, length-append}
 use Rattle.base.specs.Lists.{list_from}
-use Rattle.base.proofs.Ranges.{below_none, below_more, below_all, below_fails}
 use Rattle.base.proofs.Froms.{from_length}
 use Rattle.paper.specs.Sizes.{most_records, most_parts, number_limit}
 use Rattle.paper.specs.Numbers.{number_bytes}
@@ -23,37 +22,19 @@ use Rattle.layout.proofs.SoundViews.{tested, shaped}
 use Rattle.layout.proofs.Putting.{EachTo, none_put, all_put, one_fits, one_put, put_long, then_put}
 use Rattle.statements.specs.declared.writing.Writer.{Writer}
 use Rattle.statements.specs.Pieces.{HasRoom, Wrote}
-use Rattle.statements.specs.Writes.{all_statements, statement_at}
+use Rattle.statements.specs.Writes.{is_statement, statement_at}
 use Rattle.statements.proofs.AsLoaded.{kind_1}
 
--- a loop over items that are to be statements: it stops, goes on, or has passed all
-module _ (n : ℕ) (d : List ℕ) (p : ℕ) where
-  abbrev is_statement : ℕ → Bool
-  is_statement k = eqb (byte_at d (item_from k)) 1
-
-  pub statements_fail : p < n → (byte_at d (item_from p) ≡ 1 → ⊥) → false ≡ all_statements n d
-  unfolding all_statements
-  statements_fail l h = sym (below_fails is_statement n p l (ne_eqb (byte_at d (item_from p)) 1 h))
-
-  pub statement_here : (x : Item) → x ≡ item_at d p → (c a b : ℕ) → x ≡ statement c a b → byte_at d (item_from p) ≡ 1
+-- an item is a statement exactly when its first byte is 1
+module _ (d : List ℕ) (p : ℕ) (x : Item) (e : x ≡ item_at d p) where
+  pub statement_here : (c a b : ℕ) → x ≡ statement c a b → true ≡ is_statement d p
   unfolding item_at
-  statement_here x e c a b h = kind_1 _ _ _ _ c a b (sym e ∙ h)
+  statement_here c a b h = sym (eq-eqb (byte_at d (item_from p)) 1 (kind_1 _ _ _ _ c a b (sym e ∙ h)))
 
-  pub other_here : (x : Item) → x ≡ item_at d p → ((c a b : ℕ) → x ≡ statement c a b → ⊥) → byte_at d (item_from p) ≡ 1 → ⊥
+  pub other_here : ((c a b : ℕ) → x ≡ statement c a b → ⊥) → false ≡ is_statement d p
   unfolding item_at
-  other_here x e h k = h (byte_at d (item_from p + 1)) (byte_at d (item_from p + 2)) (byte_at d (item_from p + 3)) (e ∙ rw k refl)
-
-  pub statements_none : all_statements 0 d ≡ true
-  unfolding all_statements
-  statements_none = below_none is_statement
-
-  pub statements_more : all_statements p d ≡ true → byte_at d (item_from p) ≡ 1 → all_statements (p + 1) d ≡ true
-  unfolding all_statements
-  statements_more h e = below_more is_statement p h (eq-eqb (byte_at d (item_from p)) 1 e)
-
-  pub statements_all : all_statements p d ≡ true → p ≤ n → n ≤ p → true ≡ all_statements n d
-  unfolding all_statements
-  statements_all h l k = sym (below_all is_statement n p l k h)
+  other_here h =
+      sym (ne_eqb (byte_at d (item_from p)) 1 (λ k. h (byte_at d (item_from p + 1)) (byte_at d (item_from p + 2)) (byte_at d (item_from p + 3)) (e ∙ rw k refl)))
 
 -- a byte is a number that can be written
 pub byte_number : {v x : ℕ} → Reads v byte_limit x → x < number_limit

@@ -6,7 +6,7 @@ ghost use Rattle.paper.specs.Files.{record_bytes, statement_bytes, table_bytes, 
 ghost use Rattle.layout.specs.Fields.{part_count_of, record_of, table_of};
 ghost use Rattle.layout.specs.Soundness.{sound_bytes};
 ghost use Rattle.statements.specs.Pieces.{HasRoom, Wrote};
-ghost use Rattle.statements.specs.Writes.{all_statements, as_loaded, statement_at, file_of, write_answer, written_bytes};
+ghost use Rattle.statements.specs.Writes.{is_statement, all_statements, as_loaded, statement_at, file_of, write_answer, written_bytes};
 
 use layout::Run;
 use paper::{Item, Refusal, sizes};
@@ -14,17 +14,20 @@ use paper::{Item, Refusal, sizes};
 // A lent file: room for the longest.
 type LongestFile = [u8; sizes::LONGEST_FILE];
 
-// Whether the first n pending items are statements.
+// Whether the pending item at place p is a statement.
+fn is_statement(run: &Run, p: usize) -> bool
+    requires { p < room }
+    ensures { result ≡ is_statement run.now p }
+{
+    matches!(layout::item_at(run, p), Item::Statement { .. })
+}
+
+// Whether the first n pending items are.
 fn all_statements(run: &Run, n: usize) -> bool
     requires { n ≤ room }
     ensures { result ≡ all_statements n run.now }
 {
-    for p in 0..n {
-        if !matches!(layout::item_at(run, p), Item::Statement { .. }) {
-            return false;
-        }
-    }
-    true
+    (0..n).all(|p| is_statement(run, p))
 }
 
 // Whether the run is as loading some file leaves it.
