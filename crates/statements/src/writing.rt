@@ -5,7 +5,7 @@ ghost use Rattle.paper.specs.Numbers.{number_bytes};
 ghost use Rattle.paper.specs.Files.{record_bytes, statement_bytes, table_bytes, file_bytes, padded_file};
 ghost use Rattle.layout.specs.Fields.{part_count_of, record_of, table_of};
 ghost use Rattle.layout.specs.Soundness.{sound_bytes};
-ghost use Rattle.statements.specs.Pieces.{HasRoom, Wrote};
+ghost use Rattle.statements.specs.Pieces.{HasRoom, Adds};
 ghost use Rattle.statements.specs.Writes.{is_statement, all_statements, as_loaded, statement_at, file_of, write_answer, written_bytes};
 
 use layout::Run;
@@ -52,16 +52,16 @@ struct Writer<'a> {
 
 impl Writer<'_> {
     fn number(&mut self, n: u64)
-        requires { (n < number_limit) × HasRoom (number_bytes n) self.old }
-        ensures { Wrote (number_bytes n) self.old self.new }
+        requires { (n < number_limit) × HasRoom self.old (number_bytes n) }
+        ensures { Adds self.old (number_bytes n) self.new }
     {
         self.at = numbers::write_number(self.file, self.at, n);
     }
 
     // Record i: its symbol, its part count and its parts.
     fn record(&mut self, run: &Run, i: usize)
-        requires { (i < most_records) × (part_count_of run.now i ≤ most_parts) × HasRoom (record_bytes (record_of run.now i)) self.old }
-        ensures { Wrote (record_bytes (record_of run.now i)) self.old self.new }
+        requires { (i < most_records) × (part_count_of run.now i ≤ most_parts) × HasRoom self.old (record_bytes (record_of run.now i)) }
+        ensures { Adds self.old (record_bytes (record_of run.now i)) self.new }
     {
         let count = layout::part_count(run, i);
         self.number(layout::symbol_at(run, i));
@@ -73,8 +73,8 @@ impl Writer<'_> {
 
     // The statement at place p: its cabinet and its two sides.
     fn statement(&mut self, run: &Run, p: usize)
-        requires { (p < room) × HasRoom (statement_bytes (statement_at run.now p)) self.old }
-        ensures { Wrote (statement_bytes (statement_at run.now p)) self.old self.new }
+        requires { (p < room) × HasRoom self.old (statement_bytes (statement_at run.now p)) }
+        ensures { Adds self.old (statement_bytes (statement_at run.now p)) self.new }
     {
         // Its kind is known, so the three bytes are read where they stand: an item would have to be matched first.
         let from = layout::PENDING + layout::ITEM_BYTES * p;
@@ -85,8 +85,8 @@ impl Writer<'_> {
 
     // The table: S, V, R and the records.
     fn table(&mut self, run: &Run)
-        requires { (sound_bytes run.now ≡ true) × HasRoom (table_bytes (table_of run.now)) self.old }
-        ensures { Wrote (table_bytes (table_of run.now)) self.old self.new }
+        requires { (sound_bytes run.now ≡ true) × HasRoom self.old (table_bytes (table_of run.now)) }
+        ensures { Adds self.old (table_bytes (table_of run.now)) self.new }
     {
         let records = layout::records(run);
         self.number(layout::cabinets(run) as u64);
@@ -99,8 +99,8 @@ impl Writer<'_> {
 
     // The whole file: the table, E and the statements.
     fn whole(&mut self, run: &Run)
-        requires { (sound_bytes run.now ≡ true) × HasRoom (file_bytes (file_of run.now)) self.old }
-        ensures { Wrote (file_bytes (file_of run.now)) self.old self.new }
+        requires { (sound_bytes run.now ≡ true) × HasRoom self.old (file_bytes (file_of run.now)) }
+        ensures { Adds self.old (file_bytes (file_of run.now)) self.new }
     {
         let statements = layout::statements(run);
         self.table(run);
