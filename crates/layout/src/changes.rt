@@ -1,13 +1,13 @@
 // Writers: each leaves the run's bytes as specs/Changes says, and all other bytes as they were.
-ghost use Rattle.std.specs.Prelude.{◌≡◌, [], ◌∷◌, ◌++◌, ◌+◌, ◌%◌, ◌≤◌, ◌<◌, length, take, replicate};
+ghost use Rattle.std.specs.Prelude.{◌≡◌, [], ◌∷◌, ◌++◌, ◌+◌, ◌≤◌, ◌<◌, length, replicate};
 ghost use Rattle.base.specs.Regions.{put, gone};
 ghost use Rattle.paper.specs.Sizes.{most_cabinets, most_unknowns, most_records, most_parts, number_limit, room};
-ghost use Rattle.layout.specs.Offsets.{symbol_bytes, item_bytes, run_bytes};
+ghost use Rattle.layout.specs.Offsets.{symbol_bytes, item_bytes};
 ghost use Rattle.layout.specs.Fields.{bytes_of, count_of};
 ghost use Rattle.layout.specs.Given.{count_limit};
 ghost use Rattle.layout.specs.Changes.{with_count, bytes_of_item, removed_at, appended, with_store, with_owner, with_pair, with_clash, cleared, with_sizes, with_record};
 
-use super::fields::{Store, count};
+use super::fields::{NOTHING, Store, count};
 use super::offsets::{self, Run};
 use paper::{Item, sizes};
 
@@ -20,7 +20,7 @@ fn copy_in(run: &mut [u8], at: usize, from: &[u8])
     run[at..at + from.len()].copy_from_slice(from);
 }
 
-// n bytes v from `at` on.
+// n bytes v from `at` on. It stands beside std's `fill` to say what is left as `put`, which the definitions are made of.
 #[tactic(auto, using(crate::proofs::ChangeLaws::part_filled))]
 pub fn fill(run: &mut [u8], at: usize, n: usize, v: u8)
     requires { at + n ≤ length run.old }
@@ -42,7 +42,7 @@ fn close_gap(run: &mut [u8], at: usize, end: usize)
     fill(run, stop, offsets::ITEM_BYTES, 0);
 }
 
-// The pending count becomes n.
+// The pending count becomes n. `as` is proved to lose nothing, here and in `set_record`; a TryFrom would have an Err that gives up.
 #[tactic(auto, unfolding(crate::specs::Changes::with_count))]
 fn set_count(run: &mut Run, n: usize)
     requires { n < count_limit }
@@ -66,12 +66,12 @@ pub fn remove_item(run: &mut Run, p: usize)
     set_count(run, n - 1);
 }
 
-// An item's four bytes, from `at` on.
-fn put_item(run: &mut [u8], at: usize, j: Item)
+// An item's four bytes, from `at` on: the kinds are numbers here, where they are written, and where they are read.
+fn put_item(run: &mut [u8], at: usize, item: Item)
     requires { at + item_bytes ≤ length run.old }
-    ensures { run.new ≡ put at (bytes_of_item j) run.old }
+    ensures { run.new ≡ put at (bytes_of_item item) run.old }
 {
-    match j {
+    match item {
         Item::Statement {
             cabinet,
             left,
@@ -92,22 +92,26 @@ fn put_item(run: &mut [u8], at: usize, j: Item)
 
 // One pending item more, at the end.
 #[tactic(auto, unfolding(crate::specs::Changes::appended))]
-pub fn append_item(run: &mut Run, j: Item)
+pub fn append_item(run: &mut Run, item: Item)
     requires { count_of run.old < room }
-    ensures { run.new ≡ appended j run.old }
+    ensures { run.new ≡ appended item run.old }
 {
     let n = count(run);
-    put_item(run, offsets::PENDING + offsets::ITEM_BYTES * n, j);
+    put_item(run, offsets::PENDING + offsets::ITEM_BYTES * n, item);
     set_count(run, n + 1);
 }
 
 // The store of cabinet c goes back.
 #[tactic(auto, unfolding(crate::specs::Changes::with_store))]
-pub fn save_store(run: &mut Run, c: usize, s: Store)
+pub fn save_store(run: &mut Run, c: usize, store: Store)
     requires { c < most_cabinets }
-    ensures { run.new ≡ with_store c s.marks run.old }
+    ensures { run.new ≡ with_store c store.marks run.old }
 {
-    copy_in(run, offsets::STORES + sizes::MOST_UNKNOWNS * c, &s.marks);
+    copy_in(
+        run,
+        offsets::STORES + sizes::MOST_UNKNOWNS * c,
+        &store.marks,
+    );
 }
 
 // The owner mark of unknown x becomes u.
@@ -142,7 +146,12 @@ pub fn clear(run: &mut Run)
     ensures { run.new ≡ cleared }
 {
     fill(run, 0, offsets::OWNERS, 0);
-    fill(run, offsets::OWNERS, offsets::MEMOS - offsets::OWNERS, 255);
+    fill(
+        run,
+        offsets::OWNERS,
+        offsets::MEMOS - offsets::OWNERS,
+        NOTHING,
+    );
     fill(run, offsets::MEMOS, offsets::RUN_BYTES - offsets::MEMOS, 0);
 }
 

@@ -1,8 +1,9 @@
-// Readers: each gives back what specs/Fields says stands in its field of the run's bytes.
+// Readers: each gives back what specs/Fields says stands in its field of the run's bytes. A byte is read as a usize, since it is then
+// an index or compared with one; `Reads` says how small it is.
 ghost use Rattle.std.specs.Prelude.{◌≡◌, ◌+◌, ◌≤◌, ◌<◌, not, eqb, length, get_or, set, MatchOption};
 ghost use Rattle.paper.specs.Sizes.{most_cabinets, most_unknowns, most_records, most_parts, number_limit, room};
 ghost use Rattle.paper.specs.Tables.{same_head};
-ghost use Rattle.layout.specs.Offsets.{clash_at, clash_cabinet_at, cabinets_at, unknowns_at, records_at, statements_at, owners_at, run_bytes, memo_from};
+ghost use Rattle.layout.specs.Offsets.{clash_at, clash_cabinet_at, cabinets_at, unknowns_at, records_at, statements_at, owners_at, memo_from};
 ghost use Rattle.layout.specs.Fields.{byte_at, count_of, symbol_of, part_count_of, part_of, record_of, item_at, store_mark};
 ghost use Rattle.layout.specs.Changes.{store_of};
 ghost use Rattle.layout.specs.Given.{Reads, byte_limit, count_limit, mark_of_code, byte_of_mark, MarkIs};
@@ -11,8 +12,13 @@ ghost use Rattle.layout.specs.Soundness.{all_are};
 use super::offsets::{self, Run};
 use paper::{Item, sizes};
 
+// The marks that are no entry: nothing, and, in stores only, initiated.
+pub const NOTHING: u8 = 255;
+
+const INITIATED: u8 = 254;
+
 // Whether the n bytes from `at` on are all v. There is no way out inside the loop, so that it compiles to one that tests many bytes
-// at once.
+// at once. n and `at` stand beside the run, as the definition has them.
 pub fn all_are(run: &[u8], n: usize, at: usize, v: u8) -> bool
     requires { at + n ≤ length run.now }
     ensures { result ≡ all_are v n at run.now }
@@ -52,7 +58,8 @@ pub fn statements(run: &Run) -> usize
     usize::from(run[offsets::STATEMENTS])
 }
 
-// 0 while the run is running, 1 once it clashed.
+// 0 while the run is running, 1 once it clashed. It and the next are no Option: an unsound run may have any two bytes here, which
+// soundness tests.
 pub fn clash_byte(run: &Run) -> usize
     ensures { Reads (byte_at run.now clash_at) byte_limit result }
 {
@@ -81,7 +88,7 @@ pub fn count(run: &Run) -> usize
     usize::from(u16::from_le_bytes([run[offsets::COUNT], run[offsets::COUNT + 1]]))
 }
 
-// The pending item at place p. A sound run's kinds are 1, 2 and 3.
+// The pending item at place p. A sound run's kinds are 1, 2 and 3: numbers here, where they are read, and where they are written.
 #[tactic(auto, unfolding(crate::specs::Fields::item_at))]
 pub fn item_at(run: &Run, p: usize) -> Item
     requires { p < room }
@@ -111,7 +118,7 @@ pub fn item_at(run: &Run, p: usize) -> Item
     }
 }
 
-// The symbol of record i: four bytes, low first.
+// The symbol of record i: four bytes, low first, picked one by one: a part of the run is no array whose length is known.
 #[tactic(auto, using(crate::proofs::FieldLaws::symbol_read))]
 pub fn symbol_at(run: &Run, i: usize) -> u64
     requires { i < most_records }
@@ -159,7 +166,7 @@ pub fn owner_at(run: &Run, x: usize) -> Option<usize>
     }
 }
 
-// The byte of the pair x, y, greater first, in the memo of cabinet c.
+// The byte of the pair x, y, greater first, in the memo of cabinet c: a public function, whose number stays.
 pub fn pair_at(run: &Run, c: usize, x: usize, y: usize) -> usize
     requires { (c < most_cabinets) × (x < most_unknowns) × (y < most_unknowns) }
     ensures { Reads (byte_at run.now (memo_from c x y)) byte_limit result }
@@ -167,11 +174,6 @@ pub fn pair_at(run: &Run, c: usize, x: usize, y: usize) -> usize
     let at = offsets::MEMOS + offsets::MEMO_BYTES * c + sizes::MOST_UNKNOWNS * x + y;
     usize::from(run[at])
 }
-
-// The marks that are no entry: nothing, and, in stores only, initiated.
-const NOTHING: u8 = 255;
-
-const INITIATED: u8 = 254;
 
 // What a store has for an unknown.
 #[derive(Clone, Copy)]

@@ -10,9 +10,9 @@ pub use changes::{
     set_record, set_sizes,
 };
 pub use fields::{
-    Mark, Store, all_are, cabinets, clash_byte, clash_cabinet, count, has_clashed, item_at,
-    load_store, owner_at, pair_at, part_at, part_count, records, same_head, statements, symbol_at,
-    unknowns,
+    Mark, NOTHING, Store, all_are, cabinets, clash_byte, clash_cabinet, count, has_clashed,
+    item_at, load_store, owner_at, pair_at, part_at, part_count, records, same_head, statements,
+    symbol_at, unknowns,
 };
 pub use offsets::{
     ITEM_BYTES, MAP_BYTES, MEMO_BYTES, MEMOS, Map, OWNERS, PENDING, RECORD_BYTES, ROW_BYTES,

@@ -1,4 +1,4 @@
-// Where the fields of the run stand, and how long the map is, computed as in specs/Offsets and under its names.
+// Where the fields of the run stand, and how long the map is, computed as in specs/Offsets; its `table_at` is TABLE here, and so on.
 use paper::sizes;
 
 pub const SYMBOL_BYTES: usize = 4;

@@ -1,12 +1,12 @@
 // Whether a run's 59,752 bytes are sound: one test for each region of document 01's table, each over the definition of its
-// name in specs/Soundness.antt. The sizes are tested first, so that no sum of them can overflow.
+// name in layout/specs/Soundness. The sizes are tested first, so that no sum of them can overflow.
 #![tactic(auto)]
 
 ghost use Rattle.std.specs.Prelude.{◌≡◌, true, false, ◌&&◌, ◌+◌, ◌<◌, ◌≤◌, ltb, leb, eqb, length, MatchOption};
 ghost use Rattle.base.specs.Choice.{pick, all_below};
 ghost use Rattle.paper.specs.Sizes.{most_cabinets, most_unknowns, most_records, room};
-ghost use Rattle.layout.specs.Offsets.{cabinets_at, unknowns_at, records_at, statements_at, item_from};
-ghost use Rattle.layout.specs.Fields.{byte_at, count_of};
+ghost use Rattle.layout.specs.Offsets.{item_from};
+ghost use Rattle.layout.specs.Fields.{byte_at};
 ghost use Rattle.layout.specs.Soundness.{lesser, clash_ok, sizes_ok, parts_ok, records_ok, owner_ok, owners_ok, mark_ok, store_ok, stores_ok, memo_row_ok, memo_ok, memos_ok, item_ok, items_ok, regions_ok, sound_bytes};
 
 use layout::{Mark, Run};
@@ -25,7 +25,8 @@ fn bits_at(run: &Run, n: usize, at: usize) -> bool
     clean
 }
 
-// S, V, R and the pending count, in their ranges.
+// S, V, R and the pending count, in their ranges. The run stays beside them, as the definitions have it: kept here, each clause would
+// have to say `self.run.now`. Nor is there a type of indices in range: one would have to be made anew in each loop.
 #[derive(Clone, Copy)]
 struct Sizes {
     cabinets: usize,
@@ -62,7 +63,8 @@ impl Sizes {
         None
     }
 
-    // Whether u is an entry less than the unknown x: a record, or an unknown with a smaller number.
+    // Whether u is an entry less than the unknown x: a record, or an unknown with a smaller number. Choosing has its own test, which
+    // knows both for entries; here either may be any byte.
     #[tactic(auto, using(std::proofs::lemmas::Bool::Decides::nat_tests), unfolding(layout::specs::Soundness::lesser))]
     fn lesser(self, u: usize, x: usize) -> bool
         ensures { result ≡ lesser self.unknowns self.records u x }
@@ -77,7 +79,7 @@ impl Sizes {
         }
     }
 
-    // Whether bytes 0 and 1 are sound: running and 0, or clashed and a cabinet below S.
+    // Whether bytes 0 and 1 are sound: running and 0, or clashed and a cabinet below S. An unsound run may have any two numbers here.
     #[tactic(auto, using(std::proofs::lemmas::Bool::Decides::nat_tests), unfolding(layout::specs::Soundness::clash_ok))]
     fn clash_ok(self, clash: usize, cabinet: usize) -> bool
         ensures { result ≡ clash_ok self.cabinets clash cabinet }
@@ -125,10 +127,7 @@ impl Sizes {
         requires { x < most_unknowns }
         ensures { result ≡ owner_ok self.unknowns self.records run.now x }
     {
-        match layout::owner_at(run, x) {
-            None => true,
-            Some(u) => self.lesser(u, x),
-        }
+        layout::owner_at(run, x).is_none_or(|u| self.lesser(u, x))
     }
 
     // Whether all 32 owner marks are sound.
@@ -208,7 +207,7 @@ impl Sizes {
     }
 
     // Whether an item of kind k at cabinet c, with left a and right b, is sound: a statement of two entries, or an ask or a news
-    // with an unknown at left and a lesser entry at right.
+    // with an unknown at left and a lesser entry at right. The kind is its byte, since an unsound item has no `Item`.
     #[tactic(auto, using(std::proofs::lemmas::Bool::Decides::nat_tests), unfolding(layout::specs::Soundness::item_ok))]
     fn item_ok(self, k: u8, c: usize, a: usize, b: usize) -> bool
         ensures { result ≡ item_ok self.cabinets self.unknowns self.records k c a b }
@@ -223,7 +222,7 @@ impl Sizes {
         }
     }
 
-    // Whether the item at place p is sound.
+    // Whether the item at place p is sound: four bytes by their indices, since a part of the run is no array whose length is known.
     fn item_at_ok(self, run: &Run, p: usize) -> bool
         requires { p < room }
         ensures { result ≡ item_ok self.cabinets self.unknowns self.records (byte_at run.now (item_from p)) (byte_at run.now (item_from p + 1)) (byte_at run.now (item_from p + 2)) (byte_at run.now (item_from p + 3)) }
@@ -266,8 +265,5 @@ impl Sizes {
 pub fn sound(run: &Run) -> bool
     ensures { result ≡ sound_bytes run.now }
 {
-    match Sizes::of(run) {
-        Some(sizes) => sizes.regions_ok(run),
-        None => false,
-    }
+    Sizes::of(run).is_some_and(|sizes| sizes.regions_ok(run))
 }
