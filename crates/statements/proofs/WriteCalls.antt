@@ -4,7 +4,6 @@ use mathlib.Core.Path.{◌≡◌, refl, sym, ap, subst, ◌∙◌}
 use mathlib.Core.Bool.{true}
 use mathlib.Core.List.{List, [], ◌++◌, append-nil}
 use Rattle.std.proofs.Common.{arith}
-use Rattle.std.proofs.lemmas.Bool.Decides.{nat_tests}
 use native.Mathlib.Nat.{zero-add}
 use lib.ListN.{length, replicate, take, drop, length-drop, drop_of_length-le}
 use lib.Seq.{take_at}
@@ -13,7 +12,6 @@ use Rattle.base.specs.Lists.{list_from, Bytes}
 use Rattle.base.specs.Regions.{put}
 use Rattle.base.proofs.Froms.{from_length}
 use Rattle.paper.specs.Sizes.{most_records, room, longest_file}
-use Rattle.paper.specs.Refusals.{wrong_length}
 use Rattle.paper.specs.Numbers.{number_bytes}
 use Rattle.paper.specs.Files.{each, record_bytes, statement_bytes, table_bytes, file_bytes, padded_file}
 use Rattle.paper.proofs.RoundTrip.{written_no_longer}
@@ -25,7 +23,7 @@ use Rattle.layout.proofs.SoundViews.{tested, in_range}
 use Rattle.layout.proofs.Putting.{put_long}
 use Rattle.statements.specs.declared.writing.Writer.{Writer}
 use Rattle.statements.specs.Pieces.{HasRoom, Adds}
-use Rattle.statements.specs.Writes.{as_loaded, statement_at, file_of, answer, written_bytes}
+use Rattle.statements.specs.Writes.{as_loaded, statement_at, file_of}
 use Rattle.statements.proofs.WritePieces.{first_room, then_room, then_adds}
 use Rattle.statements.proofs.BothWays.{own_file_ok}
 
@@ -130,8 +128,3 @@ module _ (d : List ℕ) (l : length d ≡ run_bytes) (b : Bytes d) (s : sound_by
           let f : drop (longest_file - w1.at) (drop w1.at w1.file.now) ≡ [] =
           drop_of_length-le (drop w1.at w1.file.now) {i = longest_file - w1.at} (omega (arith, length-drop w1.at w1.file.now, n)) in
           rw (t, f, e, end_is, append-nil) refl
-
--- a lent file of the wrong length
-pub file_wrong_length : (d m : List ℕ) → length d ≡ run_bytes → (length m ≡ longest_file → ⊥) → answer wrong_length 0 m ≡ written_bytes d m
-unfolding written_bytes
-file_wrong_length d m l h = grind (arith, nat_tests)

@@ -1,4 +1,5 @@
-// Writing: a run that is as loading some file leaves it, back into that file.
+// Writing: a run that is as loading some file leaves it, back into that file. That a run is sound stays a clause, since the bytes are
+// the caller's; so do the bounds of i and p, for which a type of index would be made anew at each loop.
 ghost use Rattle.std.specs.Prelude.{◌≡◌, true, ◌≤◌, ◌<◌, length};
 ghost use Rattle.paper.specs.Sizes.{most_records, most_parts, number_limit, room};
 ghost use Rattle.paper.specs.Numbers.{number_bytes};
@@ -38,12 +39,18 @@ fn as_loaded(run: &Run) -> bool
     let e = layout::statements(run);
     !layout::has_clashed(run)
         && layout::count(run) == e
-        && layout::all_are(run, layout::MEMOS - layout::OWNERS, layout::OWNERS, 255)
+        && layout::all_are(
+            run,
+            layout::MEMOS - layout::OWNERS,
+            layout::OWNERS,
+            layout::NOTHING,
+        )
         && layout::all_are(run, layout::PENDING - layout::MEMOS, layout::MEMOS, 0)
         && all_statements(run, e)
 }
 
-// A file in the making, and where its next number goes.
+// A file in the making, and where its next number goes. It stands beside printing's Text, which is alike: a type's methods stand in its
+// own crate, and each of the two has its own. `as` below, for no `From` makes a u64 of a usize; each method says what it adds.
 #[derive(Drop)]
 struct Writer<'a> {
     file: &'a mut [u8],
@@ -51,6 +58,7 @@ struct Writer<'a> {
 }
 
 impl Writer<'_> {
+    // A number in its groups.
     fn number(&mut self, n: u64)
         requires { (n < number_limit) × HasRoom self.old (number_bytes n) }
         ensures { Adds self.old (number_bytes n) self.new }
@@ -129,12 +137,8 @@ fn write_padded(run: &Run, file: &mut LongestFile) -> usize
 pub fn write(run: &[u8], file: &mut [u8]) -> Result<usize, Refusal>
     ensures { write_answer result file.new ≡ written_bytes run.now file.old }
 {
-    let Some(run) = run.as_array() else {
-        return Err(Refusal::WrongLength);
-    };
-    let Some(file) = file.as_mut_array() else {
-        return Err(Refusal::WrongLength);
-    };
+    let run = run.as_array().ok_or(Refusal::WrongLength)?;
+    let file = file.as_mut_array().ok_or(Refusal::WrongLength)?;
     if !soundness::sound(run) {
         return Err(Refusal::NotSound);
     }
