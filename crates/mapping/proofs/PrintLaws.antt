@@ -15,6 +15,7 @@ use lib.ListN.{length, take, drop, length-append}
 use borrow.Rule.Slice.PartMut.{put_mid, post_of}
 use mir.Syntax.{w8}
 use mir.Val.{Fits}
+use Rattle.std.specs.Prelude.{IsOk}
 use Rattle.base.specs.Puts.{PutFrom}
 use Rattle.base.specs.Regions.{put}
 use Rattle.paper.specs.Sizes.{most_unknowns}
@@ -47,6 +48,10 @@ use Rattle.paper.specs.declared.refused.Fault.{Fault}
 use Rattle.mapping.specs.Runs.{Ends, Ran}
 use Rattle.paper.proofs.NotZero.{refusal_not_zero}
 
+-- no refusal has the number of a call that is done
+not_done : (r : Refusal) → refusal_number r ≡ 0 → ⊥
+not_done r = λ (z : refusal_number r ≡ 0). grind arith
+
 -- what loading an accepted file leaves
 record Loading (s d : List ℕ) : Type 0 where
   file : File
@@ -63,9 +68,6 @@ module _ (s d0 : List ℕ) (long : length d0 ≡ run_bytes) (d1 : List ℕ) wher
   unfolding printed
   ran_refused e w = go (read_file s) refl (by_reading (load_answer (Err e) d1) w)
     where
-      not_done : (r : Refusal) → refusal_number r ≡ 0 → ⊥
-      not_done r = λ (z : refusal_number r ≡ 0). grind arith
-
       go : (x : Read File) → read_file s ≡ x → load_answer (Err e) d1 ≡ loaded_read d0 x → printed s ≡ printed_refusal (refusal_number e.refusal) e.at
       go (got f to) r g = let z : refusal_number e.refusal ≡ 0 = cc in absurd (not_done e.refusal z)
       go (fault j q) r g =
@@ -136,10 +138,10 @@ module _ (d : List ℕ) (long : length d ≡ run_bytes) (sound : sound_bytes d �
       let f : clash_of d ≡ some (byte_at d clash_cabinet_at) = rw (clashes (eqb (byte_at d clash_at) 0) (sym ec ∙ h)) refl in
       subst (λ (l : List ℕ). PutFrom 0 l o o' n) (sym (ap (printed_run (table_of d) (run_of d)) f)) w
 
-  module _ (zc : c ≡ false) (v : ℕ) (ev : Reads (byte_at d unknowns_at) byte_limit v) where
-    pub unknowns_few : v ≤ most_unknowns
-    unknowns_few = omega (arith, ev.same, (in_range d (tested d sound)).unknowns)
+  pub unknowns_few : (v : ℕ) → Reads (byte_at d unknowns_at) byte_limit v → v ≤ most_unknowns
+  unknowns_few v ev = omega (arith, ev.same, (in_range d (tested d sound)).unknowns)
 
+  module _ (zc : c ≡ false) where
     running : byte_at d clash_at ≡ 0
     running = eqb-true (byte_at d clash_at) 0 (runs (eqb (byte_at d clash_at) 0) (sym ec ∙ zc))
 
@@ -151,20 +153,29 @@ module _ (d : List ℕ) (long : length d ≡ run_bytes) (sound : sound_bytes d �
         go (inr h) = h.empty
 
     module _ (m0 : List ℕ) (lm : length m0 ≡ map_bytes) (r : Result (Unit {0}) Refusal) (m1 : List ℕ) (em : told r m1 ≡ map_bytes_of d m0) where
+      made : told r m1 ≡ mapped 0 (map_of (table_of d) (run_of d))
+      unfolding map_bytes_of drawn_map
+      made =
+          em ∙ rw (eq-eqb (length d) run_bytes long, eq-eqb (length m0) map_bytes lm, sound, eq-eqb (byte_at d clash_at) 0 running, eq-eqb (count_of d) 0 nothing_pending) refl
+
+      pub map_accepted : IsOk r
+      map_accepted = go r made
+        where
+          go : (r' : Result (Unit {0}) Refusal) → told r' m1 ≡ mapped 0 (map_of (table_of d) (run_of d)) → IsOk r'
+          go (Ok u) e = refl
+          go (Err e') e = let z : refusal_number e' ≡ 0 = cc in absurd (not_done e' z)
+
       its_bytes : (r' : Result (Unit {0}) Refusal) (m : List ℕ) → told r' m1 ≡ mapped 0 m → m1 ≡ m
       its_bytes (Ok u) m e = cc
       its_bytes (Err e') m e = cc
 
       map_is : m1 ≡ map_of (table_of d) (run_of d)
-      unfolding map_bytes_of drawn_map
-      map_is =
-          its_bytes r (map_of (table_of d) (run_of d))
-          (em ∙ rw (eq-eqb (length d) run_bytes long, eq-eqb (length m0) map_bytes lm, sound, eq-eqb (byte_at d clash_at) 0 running, eq-eqb (count_of d) 0 nothing_pending) refl)
+      map_is = its_bytes r (map_of (table_of d) (run_of d)) made
 
-      pub items_printed : ((i : ℕ) → byte_at d i < 256) → (o o' : List ℕ) (n : ℕ) → PutFrom 0 (map_printed m1 v) o o' n
+      pub items_printed : (v : ℕ) → Reads (byte_at d unknowns_at) byte_limit v → ((i : ℕ) → byte_at d i < 256) → (o o' : List ℕ) (n : ℕ) → PutFrom 0 (map_printed m1 v) o o' n
           → PutFrom 0 (printed_run (table_of d) (run_of d) (clash_of d)) o o' n
       unfolding table_of
-      items_printed b o o' n w =
+      items_printed v ev b o o' n w =
           let f : clash_of d ≡ none = rw (eq-eqb (byte_at d clash_at) 0 running) refl in
           let k : TableOk (table_of d) = (view_sound d long (tested d sound) (λ i. omega (arith, b i))).table in
           subst (λ (l : List ℕ). PutFrom 0 l o o' n) (sym (ap (printed_run (table_of d) (run_of d)) f))

@@ -12,7 +12,6 @@ ghost use Rattle.layout.specs.Soundness.{sound_bytes};
 ghost use Rattle.promises.specs.FromFiles.{AtEnd};
 ghost use Rattle.mapping.specs.Runs.{Ran, TextOfInput};
 ghost use Rattle.mapping.specs.Streams.{Prints};
-ghost use Rattle.printing.specs.Prints.{most_printed};
 
 use layout::Run;
 use paper::{Fault, sizes};
@@ -25,19 +24,21 @@ const INPUT_BYTES: usize = sizes::LONGEST_FILE - 1 + sizes::MOST_GROUPS;
 // More than the longest text has.
 const TEXT_BYTES: usize = 2048;
 
+// Where a text is put, and its length given: there is no heap for a String.
+type TextSpace = [u8; TEXT_BYTES];
+
 // What is printed of a run at its end, into `out`; gives its length.
-fn print_run(run: &Run, out: &mut [u8]) -> usize
+fn print_run(run: &Run, out: &mut TextSpace) -> usize
     requires sound { sound_bytes run.now ≡ true }
     requires over { AtEnd run.now }
-    requires room { most_printed ≤ length out.old }
     ensures { PutFrom 0 (printed_run (table_of run.now) (run_of run.now) (clash_of run.now)) out.old out.new result }
 {
     if layout::has_clashed(run) {
         return printing::print_clash(out);
     }
-    // It is not refused: the run is sound and at its end, and has not clashed.
+    // It is not refused: the run is sound and at its end, and has not clashed. It is proved where `unwrap` asks it.
     let mut map = [0u8; layout::MAP_BYTES];
-    let _ = maps::map(run, &mut map);
+    maps::map(run, &mut map).unwrap();
     printing::print_map(&map, layout::unknowns(run), out)
 }
 
@@ -51,8 +52,7 @@ fn run_file(file: &[u8], run: &mut Run) -> Result<(), Fault>
 }
 
 // What is printed of a file, into `out`; gives its length.
-fn print(file: &[u8], out: &mut [u8]) -> usize
-    requires { most_printed ≤ length out.old }
+fn print(file: &[u8], out: &mut TextSpace) -> usize
     ensures { PutFrom 0 (printed file.now) out.old out.new result }
 {
     let mut run = [0u8; layout::RUN_BYTES];

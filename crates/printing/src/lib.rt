@@ -1,4 +1,6 @@
-// The map program's text: what it prints of a map's 352 bytes, of a clash and of a refusal, put into a buffer.
+// The map program's text: what it prints of a map's 352 bytes, of a clash and of a refusal, put into a buffer whose first bytes it
+// then is: there is no heap for a String. A row is read by its offsets in the map, as the definitions have it: a type of rows would
+// hold the same two, map and number.
 #![tactic(auto)]
 
 ghost use Rattle.std.specs.Prelude.{◌≡◌, ◌+◌, ◌≤◌, ◌<◌, length};
@@ -12,7 +14,11 @@ use itoa::Buffer;
 use layout::{Map, ROW_BYTES, SYMBOL_BYTES};
 use paper::sizes;
 
-// The text so far is the buffer's first `end` bytes.
+// The kind of an open row.
+const OPEN: u8 = 0;
+
+// The text so far is the buffer's first `end` bytes. It stands beside statements' Writer, which is alike: a type's methods stand in
+// its own crate, and each of the two has its own. What has to fit is another text in each method, so that each has its clause of it.
 #[derive(Drop)]
 struct Text<'a> {
     buffer: &'a mut [u8],
@@ -40,7 +46,7 @@ impl<'a> Text<'a> {
     }
 
     // A number in decimal digits. No `write!`, since no clause of it says that it cannot fail, as these calls cannot.
-    fn number(&mut self, n: u64)
+    fn number(&mut self, n: usize)
         requires { HasRoom self.old (decimal n) }
         ensures { Adds self.old (decimal n) self.new }
     {
@@ -49,7 +55,7 @@ impl<'a> Text<'a> {
     }
 
     // A number after a space.
-    fn spaced(&mut self, n: u64)
+    fn spaced(&mut self, n: usize)
         requires { HasRoom self.old (spaced n) }
         ensures { Adds self.old (spaced n) self.new }
     {
@@ -57,16 +63,16 @@ impl<'a> Text<'a> {
         self.number(n);
     }
 
-    // The symbol and the parts of row x, which is a record's.
+    // The symbol and the parts of row x, which is a record's. `as`, for no `From` makes a usize of a u32.
     fn plate(&mut self, map: &Map, x: usize)
         requires known { x < most_unknowns }
         requires room { HasRoom self.old (plate_printed map.now x) }
         ensures { Adds self.old (plate_printed map.now x) self.new }
     {
-        self.spaced(u64::from(symbol(map, x)));
+        self.spaced(symbol(map, x) as usize);
         let first = ROW_BYTES * x + 3 + SYMBOL_BYTES;
         for part in &map[first..first + part_count(map, x)] {
-            self.spaced(u64::from(*part));
+            self.spaced(usize::from(*part));
         }
     }
 
@@ -77,7 +83,7 @@ impl<'a> Text<'a> {
         ensures { Adds self.old (printed_look (look_at map.now x)) self.new }
     {
         let kind = map[ROW_BYTES * x + 1];
-        if kind == 0 {
+        if kind == OPEN {
             self.word(b" open");
         } else {
             self.word(b" plate");
@@ -91,14 +97,14 @@ impl<'a> Text<'a> {
         requires room { HasRoom self.old (row_printed map.now x) }
         ensures { Adds self.old (row_printed map.now x) self.new }
     {
-        self.number(x as u64);
-        self.spaced(u64::from(map[ROW_BYTES * x]));
+        self.number(x);
+        self.spaced(usize::from(map[ROW_BYTES * x]));
         self.look(map, x);
         self.word(b"\n");
     }
 }
 
-// The symbol of row x.
+// The symbol of row x: four bytes by their indices, since a part of the map is no array whose length is known.
 fn symbol(map: &Map, x: usize) -> u32
     requires { x < most_unknowns }
     ensures { result ≡ symbol_at map.now x }
@@ -124,7 +130,7 @@ pub fn print_map(map: &Map, v: usize, out: &mut [u8]) -> usize
 {
     let mut text = Text::new(out);
     text.word(b"items");
-    text.spaced(v as u64);
+    text.spaced(v);
     text.word(b"\n");
     for x in 0..v {
         text.row(map, x);
@@ -142,16 +148,17 @@ pub fn print_clash(out: &mut [u8]) -> usize
     text.end
 }
 
-// What is printed of a file that is refused: the refusal's number and the position.
+// What is printed of a file that is refused: the refusal's number and the position. It takes any two numbers, as it did, and so no
+// Fault; nor has Fault a Display, whose clause would let it fail.
 pub fn print_refusal(out: &mut [u8], number: usize, position: usize) -> usize
     requires { most_printed ≤ length out.old }
     ensures { PutFrom 0 (printed_refusal number position) out.old out.new result }
 {
     let mut text = Text::new(out);
     text.word(b"refused");
-    text.spaced(number as u64);
+    text.spaced(number);
     text.word(b" at");
-    text.spaced(position as u64);
+    text.spaced(position);
     text.word(b"\n");
     text.end
 }

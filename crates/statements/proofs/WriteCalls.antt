@@ -4,7 +4,6 @@ use mathlib.Core.Path.{◌≡◌, refl, sym, ap, subst, ◌∙◌}
 use mathlib.Core.Bool.{true}
 use mathlib.Core.List.{List, [], ◌++◌, append-nil}
 use Rattle.std.proofs.Common.{arith}
-use Rattle.std.proofs.lemmas.Bool.Decides.{nat_tests}
 use native.Mathlib.Nat.{zero-add}
 use lib.ListN.{length, replicate, take, drop, length-drop, drop_of_length-le}
 use lib.Seq.{take_at}
@@ -13,7 +12,6 @@ use Rattle.base.specs.Lists.{list_from, Bytes}
 use Rattle.base.specs.Regions.{put}
 use Rattle.base.proofs.Froms.{from_length}
 use Rattle.paper.specs.Sizes.{most_records, room, longest_file}
-use Rattle.paper.specs.Refusals.{wrong_length}
 use Rattle.paper.specs.Numbers.{number_bytes}
 use Rattle.paper.specs.Files.{each, record_bytes, statement_bytes, table_bytes, file_bytes, padded_file}
 use Rattle.paper.proofs.RoundTrip.{written_no_longer}
@@ -24,13 +22,13 @@ use Rattle.layout.specs.Soundness.{sound_bytes}
 use Rattle.layout.proofs.SoundViews.{tested, in_range}
 use Rattle.layout.proofs.Putting.{put_long}
 use Rattle.statements.specs.declared.writing.Writer.{Writer}
-use Rattle.statements.specs.Pieces.{HasRoom, Wrote}
-use Rattle.statements.specs.Writes.{as_loaded, statement_at, file_of, answer, written_bytes}
-use Rattle.statements.proofs.WritePieces.{first_room, then_room, then_wrote}
+use Rattle.statements.specs.Pieces.{HasRoom, Adds}
+use Rattle.statements.specs.Writes.{as_loaded, statement_at, file_of}
+use Rattle.statements.proofs.WritePieces.{first_room, then_room, then_adds}
 use Rattle.statements.proofs.BothWays.{own_file_ok}
 
 -- the table
-module _ (d : List ℕ) (w : Writer) (most : HasRoom (table_bytes (table_of d)) w)
+module _ (d : List ℕ) (w : Writer) (most : HasRoom w (table_bytes (table_of d)))
     (s : ℕ) (es : Reads (byte_at d cabinets_at) byte_limit s) (v : ℕ) (ev : Reads (byte_at d unknowns_at) byte_limit v)
     (r : ℕ) (er : Reads (byte_at d records_at) byte_limit r) where
   abbrev records : List ℕ
@@ -43,34 +41,34 @@ module _ (d : List ℕ) (w : Writer) (most : HasRoom (table_bytes (table_of d)) 
       (ap (λ (k : ℕ). number_bytes (byte_at d cabinets_at) ++ (number_bytes (byte_at d unknowns_at) ++ (number_bytes k ++ each record_bytes (records_from d (byte_at d records_at) 0))))
       (from_length (record_of d) (byte_at d records_at) 0))
 
-  room_is : HasRoom (number_bytes s ++ (number_bytes v ++ (number_bytes r ++ records))) w
-  room_is = subst (λ (bs : List ℕ). HasRoom bs w) table_is most
+  room_is : HasRoom w (number_bytes s ++ (number_bytes v ++ (number_bytes r ++ records)))
+  room_is = subst (λ (bs : List ℕ). HasRoom w bs) table_is most
 
-  pub s_room : HasRoom (number_bytes s) w
+  pub s_room : HasRoom w (number_bytes s)
   s_room = first_room _ _ room_is
 
   pub records_few : length d ≡ run_bytes → sound_bytes d ≡ true → r ≤ most_records
   records_few l h = omega (arith, er.same, (in_range d (tested d h)).records)
 
-  module _ (w1 : Writer) (g1 : Wrote (number_bytes s) w w1) where
-    pub v_room : HasRoom (number_bytes v) w1
+  module _ (w1 : Writer) (g1 : Adds w (number_bytes s) w1) where
+    pub v_room : HasRoom w1 (number_bytes v)
     v_room = first_room _ _ (then_room room_is g1)
 
-    module _ (w2 : Writer) (g2 : Wrote (number_bytes v) w1 w2) where
-      pub r_room : HasRoom (number_bytes r) w2
+    module _ (w2 : Writer) (g2 : Adds w1 (number_bytes v) w2) where
+      pub r_room : HasRoom w2 (number_bytes r)
       r_room = first_room _ _ (then_room (then_room room_is g1) g2)
 
-      module _ (w3 : Writer) (g3 : Wrote (number_bytes r) w2 w3) where
-        pub records_room : HasRoom (each record_bytes (records_from d r 0)) w3
+      module _ (w3 : Writer) (g3 : Adds w2 (number_bytes r) w3) where
+        pub records_room : HasRoom w3 (each record_bytes (records_from d r 0))
         records_room = then_room (then_room (then_room room_is g1) g2) g3
 
-        pub table_wrote : (w4 : Writer) → Wrote (each record_bytes (records_from d r 0)) w3 w4 → Wrote (table_bytes (table_of d)) w w4
-        table_wrote w4 g4 =
-            subst (λ (bs : List ℕ). Wrote bs w w4) (sym table_is)
-            (then_wrote room_is g1 (then_wrote (then_room room_is g1) g2 (then_wrote (then_room (then_room room_is g1) g2) g3 g4)))
+        pub table_adds : (w4 : Writer) → Adds w3 (each record_bytes (records_from d r 0)) w4 → Adds w (table_bytes (table_of d)) w4
+        table_adds w4 g4 =
+            subst (λ (bs : List ℕ). Adds w bs w4) (sym table_is)
+            (then_adds room_is g1 (then_adds (then_room room_is g1) g2 (then_adds (then_room (then_room room_is g1) g2) g3 g4)))
 
 -- the file
-module _ (d : List ℕ) (w : Writer) (most : HasRoom (file_bytes (file_of d)) w) (e : ℕ) (ee : Reads (byte_at d statements_at) byte_limit e) where
+module _ (d : List ℕ) (w : Writer) (most : HasRoom w (file_bytes (file_of d))) (e : ℕ) (ee : Reads (byte_at d statements_at) byte_limit e) where
   abbrev statements : List ℕ
   statements = each statement_bytes (list_from (statement_at d) e 0)
 
@@ -81,26 +79,26 @@ module _ (d : List ℕ) (w : Writer) (most : HasRoom (file_bytes (file_of d)) w)
       (ap (λ (k : ℕ). table_bytes (table_of d) ++ (number_bytes k ++ each statement_bytes (list_from (statement_at d) (byte_at d statements_at) 0)))
       (from_length (statement_at d) (byte_at d statements_at) 0))
 
-  file_room : HasRoom (table_bytes (table_of d) ++ (number_bytes e ++ statements)) w
-  file_room = subst (λ (bs : List ℕ). HasRoom bs w) file_is most
+  file_room : HasRoom w (table_bytes (table_of d) ++ (number_bytes e ++ statements))
+  file_room = subst (λ (bs : List ℕ). HasRoom w bs) file_is most
 
-  pub table_room : HasRoom (table_bytes (table_of d)) w
+  pub table_room : HasRoom w (table_bytes (table_of d))
   table_room = first_room _ _ file_room
 
   pub e_few : e ≤ room
   e_few = omega (arith, ee.small)
 
-  module _ (w1 : Writer) (g1 : Wrote (table_bytes (table_of d)) w w1) where
-    pub e_room : HasRoom (number_bytes e) w1
+  module _ (w1 : Writer) (g1 : Adds w (table_bytes (table_of d)) w1) where
+    pub e_room : HasRoom w1 (number_bytes e)
     e_room = first_room _ _ (then_room file_room g1)
 
-    module _ (w2 : Writer) (g2 : Wrote (number_bytes e) w1 w2) where
-      pub statements_room : HasRoom (each statement_bytes (list_from (statement_at d) e 0)) w2
+    module _ (w2 : Writer) (g2 : Adds w1 (number_bytes e) w2) where
+      pub statements_room : HasRoom w2 (each statement_bytes (list_from (statement_at d) e 0))
       statements_room = then_room (then_room file_room g1) g2
 
-      pub file_wrote : (w3 : Writer) → Wrote (each statement_bytes (list_from (statement_at d) e 0)) w2 w3 → Wrote (file_bytes (file_of d)) w w3
-      file_wrote w3 g3 =
-          subst (λ (bs : List ℕ). Wrote bs w w3) (sym file_is) (then_wrote file_room g1 (then_wrote (then_room file_room g1) g2 g3))
+      pub file_adds : (w3 : Writer) → Adds w2 (each statement_bytes (list_from (statement_at d) e 0)) w3 → Adds w (file_bytes (file_of d)) w3
+      file_adds w3 g3 =
+          subst (λ (bs : List ℕ). Adds w bs w3) (sym file_is) (then_adds file_room g1 (then_adds (then_room file_room g1) g2 g3))
 
 -- the file of a run that is as loaded is no longer than the longest
 module _ (d : List ℕ) (l : length d ≡ run_bytes) (b : Bytes d) (s : sound_bytes d ≡ true) (a : as_loaded d ≡ true) where
@@ -108,10 +106,10 @@ module _ (d : List ℕ) (l : length d ≡ run_bytes) (b : Bytes d) (s : sound_by
   file_short = written_no_longer (file_of d) (own_file_ok d l b s a)
 
   module _ (w : Writer) (k : length w.file.now ≡ longest_file) (z : w.at ≡ 0) where
-    pub file_has_room : HasRoom (file_bytes (file_of d)) w
+    pub file_has_room : HasRoom w (file_bytes (file_of d))
     file_has_room = record { fits = omega (arith, file_short, k, z) }
 
-    module _ (w1 : Writer) (g : Wrote (file_bytes (file_of d)) w w1) where
+    module _ (w1 : Writer) (g : Adds w (file_bytes (file_of d)) w1) where
       pub end_is : w1.at ≡ length (file_bytes (file_of d))
       end_is = omega (arith, g.put.past, z)
 
@@ -130,8 +128,3 @@ module _ (d : List ℕ) (l : length d ≡ run_bytes) (b : Bytes d) (s : sound_by
           let f : drop (longest_file - w1.at) (drop w1.at w1.file.now) ≡ [] =
           drop_of_length-le (drop w1.at w1.file.now) {i = longest_file - w1.at} (omega (arith, length-drop w1.at w1.file.now, n)) in
           rw (t, f, e, end_is, append-nil) refl
-
--- a lent file of the wrong length
-pub file_wrong_length : (d m : List ℕ) → length d ≡ run_bytes → (length m ≡ longest_file → ⊥) → answer wrong_length 0 m ≡ written_bytes d m
-unfolding written_bytes
-file_wrong_length d m l h = grind (arith, nat_tests)

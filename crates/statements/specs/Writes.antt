@@ -14,9 +14,13 @@ use Rattle.layout.specs.Fields.{byte_at, count_of, table_of}
 use Rattle.layout.specs.Soundness.{all_are, sound_bytes}
 use Rattle.statements.specs.Loads.{loaded_bytes}
 
+-- the item at place p is a statement
+abbrev pub is_statement : List ℕ → ℕ → Bool
+is_statement d p = eqb (byte_at d (item_from p)) 1
+
 -- the first n items are statements
 unfoldable pub all_statements : ℕ → List ℕ → Bool
-all_statements n d = all_below n (λ p. eqb (byte_at d (item_from p)) 1)
+all_statements n d = all_below n (is_statement d)
 
 -- "as loading some file leaves it": running, every mark 255, every memo byte 0, and as pending items E statements
 unfoldable pub as_loaded : List ℕ → Bool

@@ -1,12 +1,13 @@
-// Writing: a run that is as loading some file leaves it, back into that file.
+// Writing: a run that is as loading some file leaves it, back into that file. That a run is sound stays a clause, since the bytes are
+// the caller's; so do the bounds of i and p, for which a type of index would be made anew at each loop.
 ghost use Rattle.std.specs.Prelude.{◌≡◌, true, ◌≤◌, ◌<◌, length};
 ghost use Rattle.paper.specs.Sizes.{most_records, most_parts, number_limit, room};
 ghost use Rattle.paper.specs.Numbers.{number_bytes};
 ghost use Rattle.paper.specs.Files.{record_bytes, statement_bytes, table_bytes, file_bytes, padded_file};
 ghost use Rattle.layout.specs.Fields.{part_count_of, record_of, table_of};
 ghost use Rattle.layout.specs.Soundness.{sound_bytes};
-ghost use Rattle.statements.specs.Pieces.{HasRoom, Wrote};
-ghost use Rattle.statements.specs.Writes.{all_statements, as_loaded, statement_at, file_of, write_answer, written_bytes};
+ghost use Rattle.statements.specs.Pieces.{HasRoom, Adds};
+ghost use Rattle.statements.specs.Writes.{is_statement, all_statements, as_loaded, statement_at, file_of, write_answer, written_bytes};
 
 use layout::Run;
 use paper::{Item, Refusal, sizes};
@@ -14,17 +15,20 @@ use paper::{Item, Refusal, sizes};
 // A lent file: room for the longest.
 type LongestFile = [u8; sizes::LONGEST_FILE];
 
-// Whether the first n pending items are statements.
+// Whether the pending item at place p is a statement.
+fn is_statement(run: &Run, p: usize) -> bool
+    requires { p < room }
+    ensures { result ≡ is_statement run.now p }
+{
+    matches!(layout::item_at(run, p), Item::Statement { .. })
+}
+
+// Whether the first n pending items are.
 fn all_statements(run: &Run, n: usize) -> bool
     requires { n ≤ room }
     ensures { result ≡ all_statements n run.now }
 {
-    for p in 0..n {
-        if !matches!(layout::item_at(run, p), Item::Statement { .. }) {
-            return false;
-        }
-    }
-    true
+    (0..n).all(|p| is_statement(run, p))
 }
 
 // Whether the run is as loading some file leaves it.
@@ -35,12 +39,18 @@ fn as_loaded(run: &Run) -> bool
     let e = layout::statements(run);
     !layout::has_clashed(run)
         && layout::count(run) == e
-        && layout::all_are(run, layout::MEMOS - layout::OWNERS, layout::OWNERS, 255)
+        && layout::all_are(
+            run,
+            layout::MEMOS - layout::OWNERS,
+            layout::OWNERS,
+            layout::NOTHING,
+        )
         && layout::all_are(run, layout::PENDING - layout::MEMOS, layout::MEMOS, 0)
         && all_statements(run, e)
 }
 
-// A file in the making, and where its next number goes.
+// A file in the making, and where its next number goes. It stands beside printing's Text, which is alike: a type's methods stand in its
+// own crate, and each of the two has its own. `as` below, for no `From` makes a u64 of a usize; each method says what it adds.
 #[derive(Drop)]
 struct Writer<'a> {
     file: &'a mut [u8],
@@ -48,17 +58,18 @@ struct Writer<'a> {
 }
 
 impl Writer<'_> {
+    // A number in its groups.
     fn number(&mut self, n: u64)
-        requires { (n < number_limit) × HasRoom (number_bytes n) self.old }
-        ensures { Wrote (number_bytes n) self.old self.new }
+        requires { (n < number_limit) × HasRoom self.old (number_bytes n) }
+        ensures { Adds self.old (number_bytes n) self.new }
     {
         self.at = numbers::write_number(self.file, self.at, n);
     }
 
     // Record i: its symbol, its part count and its parts.
     fn record(&mut self, run: &Run, i: usize)
-        requires { (i < most_records) × (part_count_of run.now i ≤ most_parts) × HasRoom (record_bytes (record_of run.now i)) self.old }
-        ensures { Wrote (record_bytes (record_of run.now i)) self.old self.new }
+        requires { (i < most_records) × (part_count_of run.now i ≤ most_parts) × HasRoom self.old (record_bytes (record_of run.now i)) }
+        ensures { Adds self.old (record_bytes (record_of run.now i)) self.new }
     {
         let count = layout::part_count(run, i);
         self.number(layout::symbol_at(run, i));
@@ -70,8 +81,8 @@ impl Writer<'_> {
 
     // The statement at place p: its cabinet and its two sides.
     fn statement(&mut self, run: &Run, p: usize)
-        requires { (p < room) × HasRoom (statement_bytes (statement_at run.now p)) self.old }
-        ensures { Wrote (statement_bytes (statement_at run.now p)) self.old self.new }
+        requires { (p < room) × HasRoom self.old (statement_bytes (statement_at run.now p)) }
+        ensures { Adds self.old (statement_bytes (statement_at run.now p)) self.new }
     {
         // Its kind is known, so the three bytes are read where they stand: an item would have to be matched first.
         let from = layout::PENDING + layout::ITEM_BYTES * p;
@@ -82,8 +93,8 @@ impl Writer<'_> {
 
     // The table: S, V, R and the records.
     fn table(&mut self, run: &Run)
-        requires { (sound_bytes run.now ≡ true) × HasRoom (table_bytes (table_of run.now)) self.old }
-        ensures { Wrote (table_bytes (table_of run.now)) self.old self.new }
+        requires { (sound_bytes run.now ≡ true) × HasRoom self.old (table_bytes (table_of run.now)) }
+        ensures { Adds self.old (table_bytes (table_of run.now)) self.new }
     {
         let records = layout::records(run);
         self.number(layout::cabinets(run) as u64);
@@ -96,8 +107,8 @@ impl Writer<'_> {
 
     // The whole file: the table, E and the statements.
     fn whole(&mut self, run: &Run)
-        requires { (sound_bytes run.now ≡ true) × HasRoom (file_bytes (file_of run.now)) self.old }
-        ensures { Wrote (file_bytes (file_of run.now)) self.old self.new }
+        requires { (sound_bytes run.now ≡ true) × HasRoom self.old (file_bytes (file_of run.now)) }
+        ensures { Adds self.old (file_bytes (file_of run.now)) self.new }
     {
         let statements = layout::statements(run);
         self.table(run);
@@ -126,12 +137,8 @@ fn write_padded(run: &Run, file: &mut LongestFile) -> usize
 pub fn write(run: &[u8], file: &mut [u8]) -> Result<usize, Refusal>
     ensures { write_answer result file.new ≡ written_bytes run.now file.old }
 {
-    let Some(run) = run.as_array() else {
-        return Err(Refusal::WrongLength);
-    };
-    let Some(file) = file.as_mut_array() else {
-        return Err(Refusal::WrongLength);
-    };
+    let run = run.as_array().ok_or(Refusal::WrongLength)?;
+    let file = file.as_mut_array().ok_or(Refusal::WrongLength)?;
     if !soundness::sound(run) {
         return Err(Refusal::NotSound);
     }

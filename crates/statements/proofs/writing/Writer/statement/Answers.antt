@@ -1,5 +1,5 @@
 -- `statement` meets its contract: one law of a statement for what each callee asks, and for the way out.
-use Rattle.statements.proofs.WritePieces.{byte_small, cabinet_room, left_room, right_room, statement_wrote}
+use Rattle.statements.proofs.WritePieces.{byte_small, cabinet_room, left_room, right_room, statement_adds}
 use borrow.Author.Rules.{rules}
 use Rattle.statements.proofs.writing.Writer.statement.Goals as goal
 
@@ -13,4 +13,4 @@ pub number-requires-3 : goal.number-requires-3
 number-requires-3 c = search (byte_small, c.fits-run, right_room, rules)
 
 pub returns : goal.returns
-returns c = search statement_wrote
+returns c = search statement_adds

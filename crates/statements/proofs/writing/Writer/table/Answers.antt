@@ -2,8 +2,8 @@
 use Rattle.paper.specs.Files.{each, record_bytes}
 use Rattle.layout.specs.Fields.{records_from}
 use Rattle.statements.specs.Pieces.{HasRoom}
-use Rattle.statements.proofs.WritePieces.{byte_number, none_wrote, all_wrote, one_room, one_wrote, record_parts_few}
-use Rattle.statements.proofs.WriteCalls.{s_room, v_room, r_room, records_room, records_few, table_wrote}
+use Rattle.statements.proofs.WritePieces.{byte_number, none_adds, all_adds, one_room, one_adds, record_parts_few}
+use Rattle.statements.proofs.WriteCalls.{s_room, v_room, r_room, records_room, records_few, table_adds}
 use mathlib.Core.Path.{refl}
 use borrow.Author.Rules.{rules}
 use Rattle.statements.proofs.writing.Writer.table.Goals as goal
@@ -18,17 +18,17 @@ pub number-requires-3 : goal.number-requires-3
 number-requires-3 c = search (byte_number, r_room, rules)
 
 pub loop-i-init : goal.loop-i-init
-loop-i-init c = search none_wrote
+loop-i-init c = search none_adds
 
 pub record-requires : goal.record-requires
 record-requires c =
-    let r : HasRoom (each record_bytes (records_from c.args.run.now c.records-records.result 0)) c.number-3.new.self = search records_room in
+    let r : HasRoom c.number-3.new.self (each record_bytes (records_from c.args.run.now c.records-records.result 0)) = search records_room in
     (search (records_few, rules), search (records_few, record_parts_few), one_room record_bytes _ _ _ _ _ c.loop-i.invariant c.loop-i-test.true r _ refl)
 
 pub loop-i-preserved : goal.loop-i-preserved
 loop-i-preserved c =
-    let r : HasRoom (each record_bytes (records_from c.args.run.now c.records-records.result 0)) c.number-3.new.self = search records_room in
-    one_wrote record_bytes _ _ _ _ _ c.loop-i.invariant c.loop-i-test.true r _ refl _ c.record.ensures
+    let r : HasRoom c.number-3.new.self (each record_bytes (records_from c.args.run.now c.records-records.result 0)) = search records_room in
+    one_adds record_bytes _ _ _ _ _ c.loop-i.invariant c.loop-i-test.true r _ refl _ c.record.ensures
 
 pub returns : goal.returns
-returns c = search (table_wrote, all_wrote)
+returns c = search (table_adds, all_adds)
