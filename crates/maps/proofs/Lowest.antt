@@ -2,14 +2,19 @@
 use mathlib.Core.Path.{◌≡◌, refl, sym, ap, ◌∙◌}
 use mathlib.Core.Bool.{Bool, true, false}
 use mathlib.Core.List.{List, ◌∷◌, map}
-use Prim.Native.Nat.{ℕ, zero, suc, ◌+◌, ◌-◌, ◌≤◌, ◌<◌}
-use native.Mathlib.Nat.{zero-add, sub-zero}
+use Prim.Native.Nat.{ℕ, zero, suc, ◌+◌, ◌≤◌, ◌<◌}
+use native.Mathlib.Nat.{zero-add}
 use native.Mathlib.Numerals.{add-one}
 use native.Mathlib.Omega.{arith}
 use lib.ListN.{length, get_or, take, set, replicate}
+use Rattle.std.specs.Prelude.{Option}
+use Rattle.std.specs.List.{range_with_len, find}
+use Rattle.std.specs.Option.{option_map, unwrap_or}
+use Rattle.std.proofs.lemmas.Iterator.Adapters.{option_map_id}
 use Rattle.base.specs.Choice.{first_of}
 use Rattle.base.specs.Lists.{list_from}
 use Rattle.base.specs.Regions.{put}
+use Rattle.base.proofs.Firsts.{first_within}
 use Rattle.base.proofs.Froms.{from_length, from_get_d}
 use Rattle.base.proofs.Regions.{put_in, push_none, push_more, push_all}
 use Rattle.paper.specs.Sizes.{most_unknowns}
@@ -23,36 +28,30 @@ use Rattle.agreement.specs.Ends.{ends_of}
 use Rattle.agreement.proofs.Ranges.{part_unknown}
 use Rattle.maps.specs.Rows.{lowest_items, lows_of}
 
-module _ (f : ℕ → Bool) (x y : ℕ) (l : y < x) where
-  first_is_here : f y ≡ true → first_of f (x - y) y ≡ y
-  first_is_here e = let k : x - y ≡ suc (x - (y + 1)) = omega arith in rw (k, first_of, e)
+-- what is found in a range, or else its end, is the first that passes
+module _ (f : ℕ → Bool) where
+  found_first : (k y : ℕ) → unwrap_or (find f (range_with_len y k)) (y + k) ≡ first_of f k y
+  found_first zero y = omega arith
+  found_first (suc k) y = go (f y) refl (found_first k (y + 1))
+    where
+      go : (b : Bool) → f y ≡ b → unwrap_or (find f (range_with_len (y + 1) k)) (y + 1 + k) ≡ first_of f k (y + 1)
+          → unwrap_or (find f (range_with_len y (suc k))) (y + suc k) ≡ first_of f (suc k) y
+      go true e ih = rw (e, first_of) refl
+      go false e ih =
+          let s : y + suc k ≡ y + 1 + k = omega arith in
+          rw (e, first_of) (ap (λ (m : ℕ). unwrap_or (find f (range_with_len (y + 1) k)) m) s ∙ ih ∙ ap (first_of f k) (add-one y))
 
-  first_is_later : f y ≡ false → first_of f (x - y) y ≡ first_of f (x - (y + 1)) (y + 1)
-  first_is_later e = let k : x - y ≡ suc (x - (y + 1)) = omega arith in rw (k, first_of, e, add-one) refl
-
--- what the loop over y below x asks
-module _ (d : List ℕ) (v x : ℕ) where
-  pub lowest_from_0 : first_of (agree (ends_of d) v x) (x - 0) 0 ≡ lowest_of (ends_of d) v x
-  unfolding lowest_of
-  lowest_from_0 = ap (λ (k : ℕ). first_of (agree (ends_of d) v x) k 0) (sub-zero x)
-
-  module _ (y : ℕ) (i : first_of (agree (ends_of d) v x) (x - y) y ≡ lowest_of (ends_of d) v x) where
-    pub lowest_found : (b : Bool) → SoundRun d v → x < v → y < x → b ≡ agree (ends_of d) v x y → b ≡ true
-        → Reads (lowest_of (ends_of d) v x) byte_limit y
-    lowest_found b g h l e t =
-        let f = g.few_unknowns in
-        record { same = sym (first_is_here (agree (ends_of d) v x) x y l (sym e ∙ t)) ∙ i; small = omega arith }
-
-    pub lowest_later : (b : Bool) → y < x → b ≡ agree (ends_of d) v x y → b ≡ false
-        → first_of (agree (ends_of d) v x) (x - (y + 1)) (y + 1) ≡ lowest_of (ends_of d) v x
-    lowest_later b l e t = sym (first_is_later (agree (ends_of d) v x) x y l (sym e ∙ t)) ∙ i
-
-    pub lowest_itself : SoundRun d v → x < v → y ≤ x → x ≤ y → Reads (lowest_of (ends_of d) v x) byte_limit x
-    lowest_itself g h l k =
-        let f = g.few_unknowns in
-        let n : x - y ≡ 0 = omega arith in
-        let e : x ≡ y = omega arith in
-        record { same = e ∙ (rw n at i); small = omega arith }
+-- what is found among the unknowns below x
+pub lowest_found : (d : List ℕ) (v x : ℕ) (r : Option ℕ) (p : ℕ) → SoundRun d v → x < v → p ≡ unwrap_or r x
+    → option_map (λ (y : ℕ). y) r ≡ find (agree (ends_of d) v x) (range_with_len 0 x) → Reads (lowest_of (ends_of d) v x) byte_limit p
+unfolding lowest_of
+lowest_found d v x r p g h e w =
+    let f : ℕ → Bool = agree (ends_of d) v x in
+    let z : x ≡ 0 + x = omega arith in
+    let same : p ≡ first_of f x 0 =
+    e ∙ ap (λ (o : Option ℕ). unwrap_or o x) (sym (option_map_id r) ∙ w) ∙ ap (λ (m : ℕ). unwrap_or (find f (range_with_len 0 x)) m) z ∙ found_first f x 0
+    in
+    record { same = same; small = omega (arith, same, (first_within f x 0).1, g.few_unknowns) }
 
 -- what the loop over all unknowns asks, and a lowest same item looked up
 module _ (d : List ℕ) (v : ℕ) where

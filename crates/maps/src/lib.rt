@@ -10,7 +10,8 @@ ghost use Rattle.maps.specs.Bytes.{told, map_bytes_of};
 use paper::Refusal;
 use rows::draw;
 
-// The map of a run that is over, or the refusal; a refusal leaves the map's bytes.
+// The map of a run that is over, or the refusal; a refusal leaves the map's bytes. Both lengths are tested alike: `ok_or(..)?` would do for the
+// run, but says nothing of what a `&mut` leaves.
 pub fn map(run: &[u8], map: &mut [u8]) -> Result<(), Refusal>
     ensures { told result map.new ≡ map_bytes_of run.now map.old }
 {

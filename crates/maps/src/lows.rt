@@ -23,16 +23,12 @@ fn lowest(ends: &RunEnds, x: usize) -> usize
     requires { x < ends.now.unknowns }
     ensures { Reads (lowest_of (ends_of ends.now.run.now) ends.now.unknowns x) byte_limit result }
 {
-    for y in 0..x {
-        if ends.same_item(x, y) {
-            return y;
-        }
-    }
-    x
+    (0..x).find(|y| ends.same_item(x, *y)).unwrap_or(x)
 }
 
 impl<'a> LowestItems<'a> {
-    // The lowest same item of each unknown.
+    // The lowest same item of each unknown. The loop is over the place, since its invariant speaks of the first x; `as` is proved to lose
+    // nothing, where a TryFrom would have an Err that gives up.
     pub fn of(run: &'a Run) -> Self
         requires { sound_bytes run.now ≡ true }
         ensures { result.ends.run.now ≡ run.now }

@@ -8,16 +8,17 @@ ghost use Rattle.layout.specs.Soundness.{sound_bytes};
 ghost use Rattle.agreement.specs.Given.{OneRecord};
 ghost use Rattle.maps.specs.Rows.{lows_of, record_look_of, Drawn};
 
-use crate::lows::LowestItems;
+use super::lows::LowestItems;
 use layout::{Map, Run};
 
-// The kind of a row that is not open.
+// The kind of a row that is not open: a byte of the map, as the C interface has it.
 const RECORD: u8 = 1;
 
 // From a row's kind to its parts: the kind, the symbol, the part count.
 const HEAD_BYTES: usize = 1 + layout::SYMBOL_BYTES + 1;
 
-// The lowest same item of each of the n parts of record i, from `at` on.
+// The lowest same item of each of the n parts of record i, from `at` on. The loop is over the place, since its invariant speaks of the first
+// j parts.
 fn write_lows(items: &LowestItems, i: usize, n: usize, map: &mut Map, at: usize)
     requires { OneRecord items.now.ends.run.now items.now.ends.unknowns i n × (at + n ≤ map_bytes) }
     ensures { map.new ≡ put at (lows_of items.now.ends.run.now items.now.ends.unknowns i) map.old }
@@ -29,7 +30,8 @@ fn write_lows(items: &LowestItems, i: usize, n: usize, map: &mut Map, at: usize)
     }
 }
 
-// The row of record i after its first byte, from `at` on: the kind, the symbol, the part count, the parts.
+// The row of record i after its first byte, from `at` on: the kind, the symbol, the part count, the parts. `as` is proved to lose nothing; a
+// TryFrom would have an Err that gives up.
 fn write_record(items: &LowestItems, i: usize, map: &mut Map, at: usize)
     requires { (i < byte_at items.now.ends.run.now records_at) × (at + row_bytes ≤ map_bytes + 1) }
     ensures { map.new ≡ put at (record_look_of items.now.ends.run.now items.now.ends.unknowns i) map.old }

@@ -1,15 +1,15 @@
--- `lowest` meets its contract: none below y agrees, so the lowest is the first from y on.
-use Rattle.maps.proofs.Lowest.{lowest_from_0, lowest_found, lowest_later, lowest_itself}
+-- `lowest` meets its contract: the first unknown below x that is found, or else x.
+use Rattle.std.proofs.Common.{rules, arith}
+use Rattle.std.proofs.lemmas.Iterator.{YieldsList-from_range}
+use Rattle.std.proofs.lemmas.Iterator.Search.{find_from_yields_List}
+use Rattle.paper.specs.Ends.{agree}
+use Rattle.agreement.specs.Ends.{ends_of}
+use Rattle.maps.proofs.Lowest.{lowest_found}
 use Rattle.maps.proofs.lows.lowest.Goals as goal
 
-pub loop-y-init : goal.loop-y-init
-loop-y-init c = search lowest_from_0
-
-pub returns-then-same_item : goal.returns-then-same_item
-returns-then-same_item c = search lowest_found
-
-pub loop-y-preserved : goal.loop-y-preserved
-loop-y-preserved c = search lowest_later
-
 pub returns : goal.returns
-returns c = search lowest_itself
+returns c =
+    let e = c.args.ends.now in
+    let x = c.args.x in
+    lowest_found e.run.now e.unknowns x c.find.result _ e.sound c.requires (search rules)
+    (find_from_yields_List (agree (ends_of e.run.now) e.unknowns x) _ _ c.find.result c.find.ensures.ran (YieldsList-from_range 0 x x (cc) (omega arith)) (λ y b q k. search rules))
