@@ -1,5 +1,5 @@
 // Which rule a statement takes: decided from the sizes, the table, its cabinet's store, given as a value, and its memo, and
-// changing nothing.
+// changing nothing. Document 01 names this form: the store goes in by value.
 #![tactic(auto)]
 
 ghost use Rattle.std.specs.Prelude.{◌≡◌, ◌&&◌, ◌≤◌, ◌<◌, ltb, eqb, get_or};
@@ -13,8 +13,8 @@ ghost use Rattle.choices.specs.Given.{StatementIn};
 use layout::{Mark, Run, Store};
 use paper::Statement;
 
-// What a statement does at its cabinet, by its store and memo. `Dereference` carries the entry that the store has. `Waits` is one
-// of the choices, and no None: in document 01 a statement waits by its store's mark, as it is carried out by it.
+// What a statement does at its cabinet, by its store and memo. `Dereference` carries the entry that the store has. `Waits` stands
+// among them, and no None of an Option: to wait is one of document 01's outcomes, which the definitions name with the others.
 #[derive(Clone, Copy)]
 pub enum Choice {
     Waits,
@@ -27,7 +27,8 @@ pub enum Choice {
     Initiate,
 }
 
-// Whether u is less than x, with v unknowns: x is an unknown, and u a record or an unknown with a smaller number.
+// Whether u is less than x, with v unknowns: x is an unknown, and u a record or an unknown with a smaller number. `soundness` has
+// a test of its own, since it has to refuse a u above all entries too.
 fn less(v: usize, u: usize, x: usize) -> bool
     ensures { result ≡ less_in v u x }
 {

@@ -1,6 +1,10 @@
 // What the rules do: each function makes its rule's one change, takes the item away and appends the products in order. A local
 // rule, all but 8 and 9, is given its cabinet's store as a value and gives it back; who takes the store out of the run puts it
-// back, and what is left then is what specs/Changes says of the rule's change (proofs/StoreLaws).
+// back, and what is left then is what specs/Changes says of the rule's change (proofs/StoreLaws). Document 01 names this form:
+// the store by value, in and out of each local rule.
+//
+// `Fits` stands at each rule, and no type says it: it ties a place to a run that the rule changes, and each rule has a number of
+// products of its own. x and u, an item's unknown and entry, are two bytes of its three, and no struct: each rule needs others.
 #![tactic(auto)]
 
 ghost use Rattle.std.specs.Prelude.{◌≡◌, [], ◌∷◌, ◌+◌, ◌≤◌, ◌<◌, ltb, length, set};
@@ -114,7 +118,7 @@ pub fn arrive(run: &mut Run, store: Store, place: usize, x: u8, u: u8) -> Store
     store.marked(usize::from(x), Mark::Entry(u))
 }
 
-// The part places of record i, copied out.
+// The part places of record i, copied out, since the run is written while they are read.
 fn parts_of(run: &Run, i: usize) -> [u8; sizes::MOST_PARTS]
     requires { i < most_records }
     ensures { result ≡ parts_from run.now i most_parts 0 }
@@ -142,7 +146,8 @@ fn append_parts(run: &mut Run, c: u8, lefts: &[u8], rights: &[u8])
     }
 }
 
-// Rule 6: one statement for each of the n parts that records i and k have.
+// Rule 6: one statement for each of the n parts that records i and k have: records and not sides, for what it promises is of the
+// table's records and of their count, which who chose the rule has at hand.
 pub fn decompose(
     run: &mut Run,
     store: Store,
@@ -162,7 +167,7 @@ pub fn decompose(
     store
 }
 
-// News of x and u to cabinets 0 to s - 1.
+// News of x and u to cabinets 0 to s - 1. The cast is proved to lose nothing: a TryFrom would have an Err that gives up.
 fn tell(run: &mut Run, s: usize, x: u8, u: u8)
     requires { (count_of run.old + s ≤ room) × (s ≤ most_cabinets) }
     ensures { run.new ≡ appended_all (news_to 0 s x u) run.old }

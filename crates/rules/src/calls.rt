@@ -1,4 +1,5 @@
-// The calls: a step, and a list of steps, of any bytes at all. 12 and 17 refuse them before an item is looked at.
+// The calls: a step, and a list of steps, of any bytes at all. 12 and 17 refuse them before an item is looked at, in each call in
+// its own words: a step gives a refusal, and a list where it stopped.
 ghost use Rattle.std.specs.Prelude.{◌≡◌, true};
 ghost use Rattle.layout.specs.Soundness.{sound_bytes};
 ghost use Rattle.rules.specs.Bytes.{step_bytes, all_taken, steps_bytes};
@@ -30,7 +31,8 @@ pub struct Stopped {
     pub done: usize,
 }
 
-// The items at these places of a sound run are taken one after the other, up to the first refusal. Taking keeps a run sound.
+// The items at these places of a sound run are taken one after the other, up to the first refusal. Taking keeps a run sound. A
+// place is cast, since there is no From<u32> for usize; the cast is proved to lose nothing.
 fn take_all(run: &mut Run, places: &[u32]) -> Result<usize, Stopped>
     requires { sound_bytes run.old ≡ true }
     ensures { listed result run.new ≡ all_taken places.now 0 run.old }

@@ -2,6 +2,7 @@
 ghost use Rattle.std.specs.Prelude.{◌≡◌};
 ghost use Rattle.rules.specs.Numbers.{rule_number};
 
+// The rule that an item was taken by. A statement has 1 to 7, an ask 8 or 9, a news 10.
 #[derive(Clone, Copy, Debug, PartialEq, Eq)]
 pub enum Rule {
     Interchange = 1,

@@ -1,4 +1,8 @@
 // One item is taken: 15, 13, 14 and 18 refuse it, in this order and before anything is changed; else its rule is carried out.
+//
+// That the run is sound, that an item fits at a place and that a statement is in its ranges stand in the clauses, and no type says
+// it: they are facts of bytes that stay a caller's and that the rules change. x and u are two bytes of an item's three, and no
+// struct: an ask needs no cabinet.
 ghost use Rattle.std.specs.Prelude.{◌≡◌, true, [], ◌+◌, ◌≤◌, ◌<◌};
 ghost use Rattle.paper.specs.Sizes.{most_cabinets, most_unknowns, most_records};
 ghost use Rattle.layout.specs.Offsets.{cabinets_at, unknowns_at, records_at, owners_at};
@@ -50,7 +54,8 @@ struct Carried {
     store: Store,
 }
 
-// The rule of a statement's choice, with its cabinet's store in and out by value; where it waits, nothing is changed.
+// The rule of a statement's choice, with its cabinet's store in and out by value; where it waits, nothing is changed. Seven of the
+// names are a choice's and a rule's: that each choice is carried out by its own rule is what this function promises.
 fn by_choice(
     run: &mut Run,
     store: Store,
@@ -136,7 +141,8 @@ fn take_news(run: &mut Run, place: usize, c: u8, x: u8, u: u8) -> Rule
     Rule::Arrive
 }
 
-// The item at `place` of a sound run is taken: 15, 13, then what its kind says.
+// The item at `place` of a sound run is taken: 15, 13, then what its kind says. A statement is taken out of its item here and in
+// `waits`: a function that gave it as an Option would leave the other two kinds to match here all the same.
 #[tactic(auto, unfolding(crate::specs::Bytes::taken_bytes, crate::specs::Plans::plan_of))]
 pub fn take(run: &mut Run, place: usize) -> Result<Rule, Refusal>
     requires { sound_bytes run.old ≡ true }

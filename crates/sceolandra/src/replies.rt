@@ -1,4 +1,5 @@
 // What the calls reply to C, made of what the crates below give: a number, 0 for done, else document 01's refusal, and one more.
+// A number with a value beside it, five times, each field by its own name: C takes these structs, and no Result.
 ghost use Rattle.std.specs.Prelude.{◌≡◌, MatchResult};
 ghost use Rattle.paper.specs.Refusals.{refusal_number};
 ghost use Rattle.rules.specs.Numbers.{rule_number};

@@ -34,8 +34,8 @@ returns c = elim c.match-choice.branch [
   | in-Identify w ↦ rw (w.rule-is, w.run-is, w.in-Identify.is) (ap (numbered 4) w.identify.ensures)
   | in-Conflict w ↦ rw (w.rule-is, w.run-is, w.in-Conflict.is) (ap (numbered 5) w.conflict.ensures)
   | in-Decompose w ↦
-    let n = rw w.from.ensures at w.part_count-n.ensures in
-    let e = rw (w.from.ensures, w.from-in-Decompose.ensures) at w.decompose-store.ensures in
-    rw (w.rule-is, w.run-is) (search did_decompose)
+      let n = rw w.from.ensures at w.part_count-n.ensures in
+      let e = rw (w.from.ensures, w.from-in-Decompose.ensures) at w.decompose-store.ensures in
+      rw (w.rule-is, w.run-is) (search did_decompose)
   | in-Initiate w ↦ rw (w.rule-is, w.run-is, w.in-Initiate.is) (ap (numbered 7) w.initiate.ensures)
-  ]
+]
