@@ -10,6 +10,7 @@ ghost use Rattle.paper.specs.Numbers.{largest, number_at, ranged_at, number_byte
 ghost use Rattle.paper.specs.Found.{as_read};
 
 use paper::{Fault, Found, Refusal, sizes};
+use std::ops::Range;
 
 // The largest group that may end a number with `more` groups allowed after it.
 fn largest_end(more: usize) -> u64
@@ -18,30 +19,28 @@ fn largest_end(more: usize) -> u64
     if more == 0 { sizes::TOP_GROUP } else { 127 }
 }
 
-// The number at `at`. The groups before `here` come to `value`; what follows counts `scale` times, and after the group at `here`
-// at most `more` may follow. The ending group is at least `least`: 0 for a number's first group and 1 for a later one, which
-// gives the shortest form. `here` is counted beside `more`, since a sum of `at` and a count may not fit.
-pub fn number_at(s: &[u8], at: usize) -> Result<Found<u64>, Fault>
-    ensures { as_read result ≡ number_at s.now at }
+// The number at `at`. Its value is a u64, and no u32: document 02 widens numbers to 48 bits. The byte at `here` is tested for and
+// then indexed: what `get` promises names another default than the definitions do, so that the proof is no shorter with it.
+pub fn number_at(file: &[u8], at: usize) -> Result<Found<u64>, Fault>
+    ensures { as_read result ≡ number_at file.now at }
 {
+    // The groups before `here` come to `value`.
     let mut value: u64 = 0;
+    // What follows counts so many times.
     let mut scale: u64 = 1;
+    // The ending group is at least this: 0 for a number's first group, 1 for a later one, which gives the shortest form.
     let mut least: u64 = 0;
+    // Counted beside `more`, since a sum of `at` and a count may not fit.
     let mut here = at;
+    // After the group at `here` at most `more` may follow.
     for more in (0..sizes::MOST_GROUPS).rev() {
-        if s.len() <= here {
-            return Err(Fault {
-                refusal: Refusal::FileEnds,
-                at,
-            });
+        if file.len() <= here {
+            return Err(Refusal::FileEnds.at(at));
         }
-        let group = u64::from(s[here]);
+        let group = u64::from(file[here]);
         if group < 128 {
             if group < least || largest_end(more) < group {
-                return Err(Fault {
-                    refusal: Refusal::BadNumber,
-                    at,
-                });
+                return Err(Refusal::BadNumber.at(at));
             }
             return Ok(Found {
                 value: value + scale * group,
@@ -53,44 +52,40 @@ pub fn number_at(s: &[u8], at: usize) -> Result<Found<u64>, Fault>
         least = 1;
         here += 1;
     }
-    Err(Fault {
-        refusal: Refusal::BadNumber,
-        at,
-    })
+    Err(Refusal::BadNumber.at(at))
 }
 
-// The number at `at`, refused by `refusal` unless it is at least `low` and below `below`.
+// The number at `at`, refused by `refusal` unless it is in `range`.
 pub fn ranged_at(
-    s: &[u8],
+    file: &[u8],
     at: usize,
-    low: u64,
-    below: u64,
+    range: Range<u64>,
     refusal: Refusal,
 ) -> Result<Found<u64>, Fault>
-    ensures { as_read result ≡ ranged_at low below (refusal_number refusal) s.now at }
+    ensures { as_read result ≡ ranged_at range.start range.end (refusal_number refusal) file.now at }
 {
     // Document 01 names this form: each number read is taken apart by let else.
-    let read = number_at(s, at);
+    let read = number_at(file, at);
     let Ok(number) = read else {
         return read;
     };
-    if (low..below).contains(&number.value) {
+    if range.contains(&number.value) {
         Ok(number)
     } else {
-        Err(Fault { refusal, at })
+        Err(refusal.at(at))
     }
 }
 
-// The groups of `n` at `at` in `buf`, and the position after them. They are not counted: a number below
-// the paper's number_limit has at most most_groups of them.
-pub fn write_number(buf: &mut [u8], at: usize, n: u64) -> usize
-    requires { (n < number_limit) × (at + length (number_bytes n) ≤ length buf.old) }
-    ensures { PutFrom at (number_bytes n) buf.old buf.new result }
+// The groups of `n` at `at` in `file`, and the position after them. They are not counted: a number below
+// the paper's number_limit has at most most_groups of them. `as` is proved to lose nothing: a TryFrom would have an Err that gives up.
+pub fn write_number(file: &mut [u8], at: usize, n: u64) -> usize
+    requires { (n < number_limit) × (at + length (number_bytes n) ≤ length file.old) }
+    ensures { PutFrom at (number_bytes n) file.old file.new result }
 {
     if n < 128 {
-        buf[at] = n as u8;
+        file[at] = n as u8;
         return at + 1;
     }
-    buf[at] = (128 + n % 128) as u8;
-    write_number(buf, at + 1, n / 128)
+    file[at] = (128 + n % 128) as u8;
+    write_number(file, at + 1, n / 128)
 }

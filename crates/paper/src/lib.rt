@@ -2,6 +2,9 @@
 // found or refused, a pending item, and the sizes.
 #![tactic(auto)]
 
+ghost use Rattle.std.specs.Prelude.{◌≡◌};
+ghost use Rattle.paper.specs.declared.Item.TheVariants.{Statement as statement};
+
 mod refused; // refused.rt: what is refused, and where
 pub mod sizes; // sizes.rt: limits and sizes
 
@@ -20,4 +23,24 @@ pub enum Item {
     Statement { cabinet: u8, left: u8, right: u8 },
     Ask { cabinet: u8, left: u8, right: u8 },
     News { cabinet: u8, left: u8, right: u8 },
+}
+
+// A statement left = right at a cabinet: what a file lists, and what an item of the first kind carries.
+#[derive(Clone, Copy)]
+pub struct Statement {
+    pub cabinet: u8,
+    pub left: u8,
+    pub right: u8,
+}
+
+impl From<Statement> for Item {
+    ghost from_gives = { λ s item. item ≡ statement s.cabinet s.left s.right };
+
+    fn from(s: Statement) -> Item {
+        Item::Statement {
+            cabinet: s.cabinet,
+            left: s.left,
+            right: s.right,
+        }
+    }
 }

@@ -34,6 +34,19 @@ impl From<Refusal> for usize {
     }
 }
 
+impl Refusal {
+    // This refusal, where the faulty number starts at `position`.
+    pub fn at(self, position: usize) -> Fault
+        ensures refusal { result.refusal ≡ self }
+        ensures position { result.at ≡ position }
+    {
+        Fault {
+            refusal: self,
+            at: position,
+        }
+    }
+}
+
 // A refusal, and the position where the faulty number starts.
 #[derive(Clone, Copy, Debug, PartialEq, Eq)]
 pub struct Fault {

@@ -15,7 +15,7 @@ use Rattle.paper.specs.Numbers.{Read, got, fault}
 use Rattle.paper.specs.Files.{times, table_form, statement_form, file_form, File, reading, ended, read_file}
 use Rattle.paper.proofs.NumberCodec.{fault_got}
 use Rattle.reading.specs.declared.Checked.{Checked}
-use Rattle.reading.specs.Reads.{Heading, sizes_form, checked_of, checked_file}
+use Rattle.reading.specs.Reads.{Heading, sizes_form, heading, checked_of, checked_file}
 use Rattle.reading.proofs.Onward.{got_value}
 use Rattle.reading.proofs.SizesRead.{HeadingOk, heading_ok}
 use Rattle.reading.proofs.FileStages.{records_after, statement_after, count_at, Stages, staged_file, stages_read, stages_table, stages_form, stages_records, stages_statements, went_through}
@@ -23,16 +23,16 @@ use Rattle.reading.proofs.FileChecks.{accepting, accepting_is}
 
 -- S, V and R, of a file that was checked
 abbrev pub sizes_of : Checked → Heading
-sizes_of c = record { cabinets = c.cabinets; unknowns = c.unknowns; count = c.records }
+sizes_of c = heading c.sizes
 
 -- the file, its sizes, and the reads that make it: the sizes, the records, E at `between`, the statements
 pub record Accepted (f : List ℕ) (c : Checked) : Type 0 where
   pub file : File
   pub last : ℕ
   pub read : read_file f ≡ got file last
-  pub cabinets : file.table.cabinets ≡ c.cabinets
-  pub unknowns : file.table.unknowns ≡ c.unknowns
-  pub records : length file.table.records ≡ c.records
+  pub cabinets : file.table.cabinets ≡ c.sizes.cabinets
+  pub unknowns : file.table.unknowns ≡ c.sizes.unknowns
+  pub records : length file.table.records ≡ c.sizes.records
   pub statements : length file.statements ≡ c.statements
   pub ok : HeadingOk (sizes_of c)
   pub few : c.statements ≤ most_statements

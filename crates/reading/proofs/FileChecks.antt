@@ -5,8 +5,6 @@ use mathlib.Core.List.{List}
 use native.Mathlib.Omega.{arith}
 use borrow.Author.Tests.{lt-ltb, le-ltb}
 use lib.ListN.{length}
-use mir.Syntax.{w64}
-use mir.Val.{Fits}
 use Rattle.paper.specs.Sizes.{most_cabinets, most_unknowns, most_records}
 use Rattle.paper.specs.Refusals.{refusal_number, bytes_left}
 use Rattle.paper.specs.Numbers.{got, fault}
@@ -15,8 +13,8 @@ use Rattle.reading.specs.declared.Sizes.{Sizes}
 use Rattle.reading.specs.declared.Checked.{Checked}
 use Rattle.std.specs.Prelude.{Result, Ok, Err}
 use Rattle.paper.specs.declared.Found.{Found}
+use Rattle.paper.specs.declared.Statement.{Statement}
 use Rattle.reading.specs.declared.RecordRead.{RecordRead}
-use Rattle.reading.specs.declared.StatementRead.{StatementRead}
 use Rattle.paper.specs.Found.{as_read}
 use Rattle.paper.specs.declared.refused.Fault.{Fault}
 use Rattle.reading.specs.Reads.{read_as, heading, sizes_form, RecordFound, record_of, statement_form_of, statement_of, Skipped, checked_file}
@@ -28,9 +26,7 @@ use Rattle.reading.proofs.FileStages.{count_at, sizes_fault, records_fault, coun
 abbrev pub accepting : {f : List ℕ} → Stages f → Checked
 accepting w =
     record {
-      cabinets = w.heading.cabinets;
-      unknowns = w.heading.unknowns;
-      records = w.heading.count;
+      sizes = record { cabinets = w.heading.cabinets; unknowns = w.heading.unknowns; records = w.heading.count };
       statements = w.count;
       table = w.table;
       list = w.list;
@@ -48,8 +44,8 @@ pub records_end : {P : ℕ → Result (Found RecordRead) Fault → Type 0} (v : 
     → (n at : ℕ) (r : Result ℕ Fault) → Skipped P n at r → EndsAs r (reading (times n (record_form v)) f at)
 records_end v f found n at r h = skipped_ends _ record_of (record_form v) f (λ at x p. (found at x p).read) n at r h
 
-pub statements_end : {P : ℕ → Result (Found StatementRead) Fault → Type 0} (s e : ℕ) (f : List ℕ)
-    → ((at : ℕ) (x : Result (Found StatementRead) Fault) → P at x → read_as statement_of x ≡ reading (statement_form_of s e) f at)
+pub statements_end : {P : ℕ → Result (Found Statement) Fault → Type 0} (s e : ℕ) (f : List ℕ)
+    → ((at : ℕ) (x : Result (Found Statement) Fault) → P at x → read_as statement_of x ≡ reading (statement_form_of s e) f at)
     → (n at : ℕ) (r : Result ℕ Fault) → Skipped P n at r → EndsAs r (reading (times n (statement_form_of s e)) f at)
 statements_end s e f found n at r h = skipped_ends _ statement_of (statement_form_of s e) f found n at r h
 
@@ -72,8 +68,8 @@ module _ (f : List ℕ) where
     pub entries_few : x.unknowns + x.records ≤ most_unknowns + most_records
     entries_few = let h = heading_ok f (heading x) t1 (sym d1) in omega (arith, h.unknowns, h.count)
 
-    pub entries_fit : Fits w64 (x.unknowns + x.records)
-    entries_fit = omega (arith, entries_few)
+    pub entries_known : (x.unknowns ≤ most_unknowns) × (x.records ≤ most_records)
+    entries_known = let h = heading_ok f (heading x) t1 (sym d1) in (h.unknowns, h.count)
 
     pub refused_in_records : (e : Fault) → EndsAs (Err e) (reading (times x.records (record_form x.unknowns)) f t1)
         → as_read (Err e) ≡ checked_file f
@@ -112,7 +108,7 @@ module _ (f : List ℕ) where
           refused_bytes_left h = rw (stages_read stages, lt-ltb t4 (length f) h) refl
 
           pub accepted_whole : length f ≤ t4
-              → got (record { cabinets = x.cabinets; unknowns = x.unknowns; records = x.records; statements = n; table = t1; list = t3 }) t4
+              → got (record { sizes = x; statements = n; table = t1; list = t3 }) t4
               ≡ checked_file f
           unfolding stages
           accepted_whole h = accepting_is stages h

@@ -7,8 +7,6 @@ use native.Mathlib.Omega.{arith}
 use borrow.Author.Tests.{lt-ltb, le-ltb}
 use lib.Dec.{ltb}
 use lib.ListN.{length, take, drop}
-use mir.Syntax.{w64}
-use mir.Val.{Fits}
 use Rattle.base.specs.Choice.{pick}
 use Rattle.paper.specs.Sizes.{most_cabinets, most_unknowns, most_records}
 use Rattle.paper.specs.Tables.{Table}
@@ -17,7 +15,9 @@ use Rattle.paper.specs.Numbers.{Read, got, fault}
 use Rattle.paper.specs.Files.{Form, end, ◌>>=◌, times, table_form, statement_form, count_form, before_statement, File, reading, read_file, Span as FileSpan, empty_span, span_from, span_at, span_in, statement_span, statement_part}
 use Rattle.reading.specs.declared.Checked.{Checked}
 use Rattle.reading.specs.declared.Span.{Span}
-use Rattle.std.specs.Prelude.{Ok, Err}
+use Rattle.std.specs.Prelude.{Option, Some, None, Result, Ok, Err}
+use Rattle.std.specs.Result.{result_ok}
+use Rattle.std.proofs.lemmas.Option.{none-some}
 use Rattle.paper.specs.declared.refused.Fault.{Fault}
 use Rattle.paper.proofs.NumberCodec.{fault_got}
 use Rattle.reading.specs.Reads.{statement_form_of, checked_of, checked_file, span_of}
@@ -37,6 +37,15 @@ statements_before n t = count_form >>= λ e. times n (statement_form t) >>= λ l
 pub own_forward : (s e : ℕ) (f : List ℕ) (start : ℕ) (q : Statement) (next : ℕ) → got q next ≡ reading (statement_form_of s e) f start
     → start ≤ next
 own_forward s e f start q next d = (reading_within f (statement_form_of s e) start q next (sym d)).0
+
+-- what `.ok()` was made of
+pub ok_of : {A : Type 0} (r : Result A Fault) (o : Option A) (x : A) → o ≡ result_ok r → o ≡ Some x → r ≡ Ok x
+ok_of (Ok y) o x e h = cc
+ok_of (Err d) o x e h = absurd (none-some x (sym e ∙ h))
+
+pub err_of : {A : Type 0} (r : Result A Fault) (o : Option A) → o ≡ result_ok r → o ≡ None → (e : Fault) × (r ≡ Err e)
+err_of (Ok y) o e h = absurd (none-some y (sym h ∙ e))
+err_of (Err d) o e h = (d, refl)
 
 module _ (f : List ℕ) (n : ℕ) where
   -- the ways out of `find_statement`
@@ -58,21 +67,21 @@ module _ (f : List ℕ) (n : ℕ) where
     abbrev table : Table
     table = known.file.table
 
-    pub cabinets_few : c.cabinets ≤ most_cabinets
+    pub cabinets_few : c.sizes.cabinets ≤ most_cabinets
     cabinets_few = known.ok.cabinets
 
-    pub entries_few : c.unknowns + c.records ≤ most_unknowns + most_records
+    pub entries_few : c.sizes.unknowns + c.sizes.records ≤ most_unknowns + most_records
     entries_few = omega (arith, known.ok.unknowns, known.ok.count)
 
-    pub entries_fit : Fits w64 (c.unknowns + c.records)
-    entries_fit = omega (arith, entries_few)
+    pub entries_known : (c.sizes.unknowns ≤ most_unknowns) × (c.sizes.records ≤ most_records)
+    entries_known = (known.ok.unknowns, known.ok.count)
 
     pub no_such_statement : c.statements ≤ n → NoSpan
     unfolding statement_span
     no_such_statement h = rw (known.read, known.statements, le-ltb n c.statements h) refl
 
     abbrev own_form : Form Statement
-    own_form = statement_form_of c.cabinets (c.unknowns + c.records)
+    own_form = statement_form_of c.sizes.cabinets (c.sizes.unknowns + c.sizes.records)
 
     module _ (h : n < c.statements) where
       -- the span is that of the statement after all that stands before it

@@ -4,13 +4,13 @@ use Rattle.paper.specs.Sizes.{most_cabinets, most_unknowns, most_records, most_p
 use Rattle.paper.specs.Refusals.{refusal_number, bad_cabinets, bad_unknowns, bad_records, part_not_unknown, no_such_cabinet, no_such_entry}
 use Rattle.paper.specs.Numbers.{Read, got, fault}
 use Rattle.paper.specs.Tables.{Record}
-use Rattle.paper.specs.Runs.{Statement}
+use Rattle.paper.specs.Runs.{Statement as FileStatement}
 use Rattle.paper.specs.Files.{Form, end, ◌>>=◌, number, times, table_form, count_form, File, reading, read_file, Span as FileSpan}
 use Rattle.paper.specs.declared.refused.Fault.{Fault}
 use Rattle.paper.specs.declared.Found.{Found}
+use Rattle.paper.specs.declared.Statement.{Statement}
 use Rattle.reading.specs.declared.Sizes.{Sizes}
 use Rattle.reading.specs.declared.RecordRead.{RecordRead}
-use Rattle.reading.specs.declared.StatementRead.{StatementRead}
 use Rattle.reading.specs.declared.Checked.{Checked}
 use Rattle.reading.specs.declared.Span.{Span}
 
@@ -80,14 +80,14 @@ pub record RecordFound (m : Form Record) (f : List ℕ) (at : ℕ) (x : Result (
   pub places : IfOk x (λ y. AllPlaces y.value)
 
 -- a statement of a table with s cabinets and n entries: the paper's statement_form, which asks no more of the table
-abbrev pub statement_form_of : ℕ → ℕ → Form Statement
+abbrev pub statement_form_of : ℕ → ℕ → Form FileStatement
 statement_form_of s n = do
   c ← number 0 s no_such_cabinet
   a ← number 0 n no_such_entry
   b ← number 0 n no_such_entry
   end (record { cabinet = c; left = a; right = b })
 
-abbrev pub statement_of : StatementRead → Statement
+abbrev pub statement_of : Statement → FileStatement
 statement_of x = record { cabinet = x.cabinet; left = x.left; right = x.right }
 
 -- an accepted file's sizes, and the positions after "S, V, R" and after E; or the refusal
@@ -95,9 +95,7 @@ abbrev pub checked_of : List ℕ → Read File → Read Checked
 checked_of f (got x to) =
     got
     (record {
-      cabinets = x.table.cabinets;
-      unknowns = x.table.unknowns;
-      records = length x.table.records;
+      sizes = record { cabinets = x.table.cabinets; unknowns = x.table.unknowns; records = length x.table.records };
       statements = length x.statements;
       table = next_of (reading sizes_form f 0);
       list = next_of (reading (table_form >>= λ t. count_form) f 0);

@@ -1,14 +1,15 @@
 // The statement file, read: the sizes, a record, a statement, each with where the read ended; the whole file; statement n.
-// File and position stay two parameters: callers name both, and a cursor would be a type more and no line less.
+// File and position stay two parameters: callers name both, and a cursor would be a type more and no line less. A refused
+// number is handed on by `?`. `as` is proved to lose nothing here: a TryFrom would have an Err that gives up.
 #![tactic(auto)]
 
-ghost use Rattle.std.specs.Prelude.{◌≡◌, ◌+◌, ◌≤◌};
+ghost use Rattle.std.specs.Prelude.{◌≡◌, MatchOption, ◌+◌, ◌≤◌};
 ghost use Rattle.paper.specs.Sizes.{most_cabinets, most_unknowns, most_records, most_parts};
 ghost use Rattle.paper.specs.Found.{as_read};
-ghost use Rattle.paper.specs.Files.{record_form, reading, statement_span, statement_part};
+ghost use Rattle.paper.specs.Files.{record_form, reading, empty_span, statement_span, statement_part};
 ghost use Rattle.reading.specs.Reads.{read_as, sizes_form, heading, parts_form, RecordFound, statement_form_of, statement_of, Skipped, checked_file, span_of};
 
-use paper::{Fault, Found, Refusal, sizes};
+use paper::{Fault, Found, Refusal, Statement, sizes};
 
 // One more than the paper's most_cabinets.
 const CABINETS_BELOW: u64 = sizes::MOST_CABINETS as u64 + 1;
@@ -27,13 +28,23 @@ const STATEMENTS_BELOW: u64 = sizes::MOST_STATEMENTS as u64 + 1;
 
 // S, V and R.
 #[derive(Clone, Copy)]
-struct Sizes {
-    cabinets: usize,
-    unknowns: usize,
-    records: usize,
+pub struct Sizes {
+    pub cabinets: usize,
+    pub unknowns: usize,
+    pub records: usize,
 }
 
-// A record: its symbol, its part count, and its parts, 0 beyond the count.
+impl Sizes {
+    // How many entries there are: V + R.
+    pub fn entries(self) -> usize
+        requires { (self.unknowns ≤ most_unknowns) × (self.records ≤ most_records) }
+        ensures { result ≡ self.unknowns + self.records }
+    {
+        self.unknowns + self.records
+    }
+}
+
+// A record: its symbol, its part count, and its parts, 0 beyond the count. An array with its count: there is no heap.
 #[derive(Clone, Copy)]
 pub struct RecordRead {
     pub symbol: u64,
@@ -41,26 +52,16 @@ pub struct RecordRead {
     pub parts: [u8; sizes::MOST_PARTS],
 }
 
-// A statement.
-#[derive(Clone, Copy)]
-pub struct StatementRead {
-    pub cabinet: u8,
-    pub left: u8,
-    pub right: u8,
-}
-
 // S, V, R and E, where the table of records starts, and where the list of statements starts.
 #[derive(Clone, Copy)]
 pub struct Checked {
-    pub cabinets: usize,
-    pub unknowns: usize,
-    pub records: usize,
+    pub sizes: Sizes,
     pub statements: usize,
     pub table: usize,
     pub list: usize,
 }
 
-// A part of a file: where it starts, and its length.
+// A part of a file: where it starts, and its length. C takes it by its layout.
 #[repr(C)]
 #[derive(Clone, Copy)]
 pub struct Span {
@@ -72,9 +73,9 @@ pub struct Span {
 fn read_sizes(file: &[u8]) -> Result<Found<Sizes>, Fault>
     ensures { read_as heading result ≡ reading sizes_form file.now 0 }
 {
-    let s = numbers::ranged_at(file, 0, 1, CABINETS_BELOW, Refusal::BadCabinets)?;
-    let v = numbers::ranged_at(file, s.next, 0, UNKNOWNS_BELOW, Refusal::BadUnknowns)?;
-    let r = numbers::ranged_at(file, v.next, 0, RECORDS_BELOW, Refusal::BadRecords)?;
+    let s = numbers::ranged_at(file, 0, 1..CABINETS_BELOW, Refusal::BadCabinets)?;
+    let v = numbers::ranged_at(file, s.next, 0..UNKNOWNS_BELOW, Refusal::BadUnknowns)?;
+    let r = numbers::ranged_at(file, v.next, 0..RECORDS_BELOW, Refusal::BadRecords)?;
     let value = Sizes {
         cabinets: s.value as usize,
         unknowns: v.value as usize,
@@ -99,8 +100,9 @@ fn read_parts(
 {
     let mut parts = [0u8; sizes::MOST_PARTS];
     let mut here = at;
+    // A range, and not the places: the loop's invariant speaks of the first i parts.
     for i in 0..count {
-        let part = numbers::ranged_at(file, here, 0, v as u64, Refusal::PartNotUnknown)?;
+        let part = numbers::ranged_at(file, here, 0..v as u64, Refusal::PartNotUnknown)?;
         parts[i] = part.value as u8;
         here = part.next;
     }
@@ -117,25 +119,20 @@ pub fn read_record(file: &[u8], at: usize, v: usize) -> Result<Found<RecordRead>
     requires { v ≤ most_unknowns }
     ensures { RecordFound (record_form v) file.now at result }
 {
-    let symbol = numbers::ranged_at(file, at, 0, sizes::NUMBER_LIMIT, Refusal::BadNumber)?;
-    let count = numbers::ranged_at(file, symbol.next, 0, PARTS_BELOW, Refusal::TooManyParts)?;
+    let symbol = numbers::ranged_at(file, at, 0..sizes::NUMBER_LIMIT, Refusal::BadNumber)?;
+    let count = numbers::ranged_at(file, symbol.next, 0..PARTS_BELOW, Refusal::TooManyParts)?;
     read_parts(file, count.next, v, symbol.value, count.value as usize)
 }
 
 // The statement at `at`, with s cabinets and n entries: its cabinet and its two sides.
-pub fn read_statement(
-    file: &[u8],
-    at: usize,
-    s: usize,
-    n: usize,
-) -> Result<Found<StatementRead>, Fault>
+pub fn read_statement(file: &[u8], at: usize, s: usize, n: usize) -> Result<Found<Statement>, Fault>
     requires { (s ≤ most_cabinets) × (n ≤ most_unknowns + most_records) }
     ensures { read_as statement_of result ≡ reading (statement_form_of s n) file.now at }
 {
-    let cabinet = numbers::ranged_at(file, at, 0, s as u64, Refusal::NoSuchCabinet)?;
-    let left = numbers::ranged_at(file, cabinet.next, 0, n as u64, Refusal::NoSuchEntry)?;
-    let right = numbers::ranged_at(file, left.next, 0, n as u64, Refusal::NoSuchEntry)?;
-    let value = StatementRead {
+    let cabinet = numbers::ranged_at(file, at, 0..s as u64, Refusal::NoSuchCabinet)?;
+    let left = numbers::ranged_at(file, cabinet.next, 0..n as u64, Refusal::NoSuchEntry)?;
+    let right = numbers::ranged_at(file, left.next, 0..n as u64, Refusal::NoSuchEntry)?;
+    let value = Statement {
         cabinet: cabinet.value as u8,
         left: left.value as u8,
         right: right.value as u8,
@@ -172,13 +169,12 @@ pub fn check_file(file: &[u8]) -> Result<Found<Checked>, Fault>
         unknowns,
         records,
     } = sizes.value;
-    let entries = unknowns + records;
+    let entries = sizes.value.entries();
     let count_at = skip(sizes.next, records, |at| read_record(file, at, unknowns))?;
     let count = numbers::ranged_at(
         file,
         count_at,
-        0,
-        STATEMENTS_BELOW,
+        0..STATEMENTS_BELOW,
         Refusal::TooManyStatements,
     )?;
     let statements = count.value as usize;
@@ -188,15 +184,10 @@ pub fn check_file(file: &[u8]) -> Result<Found<Checked>, Fault>
         |at| read_statement(file, at, cabinets, entries),
     )?;
     if end < file.len() {
-        return Err(Fault {
-            refusal: Refusal::BytesLeft,
-            at: end,
-        });
+        return Err(Refusal::BytesLeft.at(end));
     }
     let value = Checked {
-        cabinets,
-        unknowns,
-        records,
+        sizes: sizes.value,
         statements,
         table: sizes.next,
         list: count.next,
@@ -204,34 +195,35 @@ pub fn check_file(file: &[u8]) -> Result<Found<Checked>, Fault>
     Ok(Found { value, next: end })
 }
 
-// Where statement n stands; the empty part at 0 if the file is refused or has no statement n.
-pub fn find_statement(file: &[u8], n: usize) -> Span
-    ensures { span_of result ≡ statement_span file.now n }
+// Where statement n stands; none if the file is refused or has no statement n.
+fn located(file: &[u8], n: usize) -> Option<Span>
+    ensures { MatchOption result (empty_span ≡ statement_span file.now n) (λ x. span_of x ≡ statement_span file.now n) }
 {
-    let none = Span { start: 0, size: 0 };
-    let Ok(found) = check_file(file) else {
-        return none;
-    };
-    let checked = found.value;
+    let checked = check_file(file).ok()?.value;
     if checked.statements <= n {
-        return none;
+        return None;
     }
-    let cabinets = checked.cabinets;
-    let entries = checked.unknowns + checked.records;
-    let Ok(start) = skip(
+    let cabinets = checked.sizes.cabinets;
+    let entries = checked.sizes.entries();
+    let start = skip(
         checked.list,
         n,
         |at| read_statement(file, at, cabinets, entries),
-    ) else {
-        return none;
-    };
-    let Ok(statement) = read_statement(file, start, cabinets, entries) else {
-        return none;
-    };
-    Span {
+    )
+    .ok()?;
+    let end = read_statement(file, start, cabinets, entries).ok()?.next;
+    Some(Span {
         start,
-        size: statement.next - start,
-    }
+        size: end - start,
+    })
+}
+
+// Where statement n stands. It cannot fail as a whole: of a refused file and of a statement that is not there, C is told the empty
+// part at 0.
+pub fn find_statement(file: &[u8], n: usize) -> Span
+    ensures { span_of result ≡ statement_span file.now n }
+{
+    located(file, n).unwrap_or(Span { start: 0, size: 0 })
 }
 
 // Statement n of the file, as a part of the file; an empty part if the file is refused or has no statement n.

@@ -6,14 +6,14 @@ use Rattle.numbers.proofs.number_at.Goals.{then-group-least-via-then-group-least
 pub loop-more-init : goal.loop-more-init
 loop-more-init c = search none_read
 
-pub returns-then-s-here : goal.returns-then-s-here
-returns-then-s-here c = search cut_short
+pub returns-then-file-here : goal.returns-then-file-here
+returns-then-file-here c = rw (c.at.ensures.refusal, c.at.ensures.position) (search cut_short)
 
 pub returns-then-group-least : goal.returns-then-group-least
 returns-then-group-least c =
     elim c.then-group-least.branch [
-      | then-group-least-via-then-group-least w ↦ search longer_than_need
-      | then-group-least-via-else-group-least+then-largest_end-group w ↦ search over_the_limit
+      | then-group-least-via-then-group-least w ↦ rw (c.at-then-group-least.ensures.refusal, c.at-then-group-least.ensures.position) (search longer_than_need)
+      | then-group-least-via-else-group-least+then-largest_end-group w ↦ rw (c.at-then-group-least.ensures.refusal, c.at-then-group-least.ensures.position) (search over_the_limit)
     ]
 
 pub overflow_mul-result : goal.overflow_mul-result
@@ -38,4 +38,4 @@ pub loop-more-preserved : goal.loop-more-preserved
 loop-more-preserved c = search one_more
 
 pub returns : goal.returns
-returns c = search all_read
+returns c = rw (c.at-2.ensures.refusal, c.at-2.ensures.position) (search all_read)
