@@ -24,7 +24,7 @@ pub fn next_state(x: u32) -> u32
     wrapping_mul(MULTIPLIER, x).wrapping_add(INCREMENT)
 }
 
-// The place that the state x draws of n pending ones: x divided by 65,536, remainder by n.
+// The place that the state x draws of n pending ones: x divided by 65,536, remainder by n. `as`, for no `From` makes a usize of a u32.
 pub fn drawn_place(x: u32, n: usize) -> usize
     requires { 0 < n }
     ensures { result ≡ drawn_place x n }

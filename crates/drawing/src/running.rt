@@ -1,4 +1,5 @@
-// The run that the map program makes: the place drawn, or the first ready one after it, is taken until the run ends.
+// The run that the map program makes: the place drawn, or the first ready one after it, is taken until the run ends. That a run is
+// sound stays a clause: it is a fact of bytes that are the caller's, and a type of them would be one for each way to lend them.
 ghost use Rattle.std.specs.Prelude.{◌≡◌, ◌<◌, ◌≤◌, true};
 ghost use Rattle.paper.specs.Counts.{pairs_of, most_steps};
 ghost use Rattle.layout.specs.Offsets.{cabinets_at, unknowns_at, statements_at};

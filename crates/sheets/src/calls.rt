@@ -45,10 +45,10 @@ impl TryFrom<u8> for Kind {
     }
 }
 
-// One call of a sheet.
+// One call of a sheet; none where there is no such kind.
 #[derive(Clone, Copy)]
 pub struct Call<'a> {
-    pub kind: Result<Kind, NoKind>,
+    pub kind: Option<Kind>,
     pub bytes: &'a [u8],
 }
 
@@ -69,7 +69,7 @@ impl<'a> Iterator for Sheet<'a> {
         let rest = pieces::rest(rest, 2);
         self.rest = pieces::rest(rest, n);
         Some(Call {
-            kind: Kind::try_from(*kind),
+            kind: Kind::try_from(*kind).ok(),
             bytes: pieces::first(rest, n),
         })
     }

@@ -1,7 +1,8 @@
-// Each call made on the lent buffers, by what stands in its bytes; what is two bytes long there has its low byte first.
+// Each call made on the lent buffers, by what stands in its bytes; what is two bytes long there has its low byte first. A sheet lends
+// any length of a buffer, so that the length stands beside it. `as` makes a u64 of a usize, as in `Line::new`.
 ghost use Rattle.std.specs.Prelude.{◌≤◌, ◌<◌};
 
-use super::calls::{Call, Kind, NoKind};
+use super::calls::{Call, Kind};
 use super::lines::Line;
 use super::pieces;
 use std::io;
@@ -192,18 +193,18 @@ impl Lent {
     pub fn make(&mut self, out: &impl Print, call: Call) -> io::Result<Line> {
         let bytes = call.bytes;
         let line = match call.kind {
-            Ok(Kind::Load) => self.load(bytes),
-            Ok(Kind::Statement) => statement(bytes),
-            Ok(Kind::Step) => self.step(bytes),
-            Ok(Kind::List) => self.list(bytes),
-            Ok(Kind::Map) => self.map(bytes),
-            Ok(Kind::Write) => self.write(bytes),
-            Ok(Kind::Poke) => self.poke(bytes),
-            Ok(Kind::Fill) => self.fill(bytes),
-            Ok(Kind::Damage) => self.damage(bytes),
-            Ok(Kind::Sweep) => self.sweep(bytes),
-            Ok(Kind::Print) => print(out, bytes)?,
-            Err(NoKind) => self.hashed(),
+            Some(Kind::Load) => self.load(bytes),
+            Some(Kind::Statement) => statement(bytes),
+            Some(Kind::Step) => self.step(bytes),
+            Some(Kind::List) => self.list(bytes),
+            Some(Kind::Map) => self.map(bytes),
+            Some(Kind::Write) => self.write(bytes),
+            Some(Kind::Poke) => self.poke(bytes),
+            Some(Kind::Fill) => self.fill(bytes),
+            Some(Kind::Damage) => self.damage(bytes),
+            Some(Kind::Sweep) => self.sweep(bytes),
+            Some(Kind::Print) => print(out, bytes)?,
+            None => self.hashed(),
         };
         Ok(line)
     }
