@@ -96,13 +96,28 @@ pub items_more : (js : List Item) (j : Item) (k : ℕ) (d₀ d e : List ℕ) →
     → e ≡ appended (get_or js k j) d → k < length js → appended_all js d₀ ≡ appended_all (drop (k + 1) js) e
 items_more js j k d₀ d e inv q h = inv ∙ rw (drop_at_element js k j h, q) refl
 
--- the statements of two records' parts: those of the first parts that are left come next
-module _ (c p q : ℕ) (ps qs ps' qs' d e : List ℕ) (left : ps ≡ p ∷ ps') (right : qs ≡ q ∷ qs') (l : length d ≡ run_bytes) (o : e ≡ appended (Statement c p q) d) where
-  pub parts_room : count_of d + length ps ≤ room → count_of e + length ps' ≤ room
-  parts_room r = omega (arith, ap length left, ap count_of o, appended_count d (Statement c p q) l (omega (arith, ap length left)))
+-- n elements of a list from the k-th on, as they are read
+abbrev pub elements_from : List ℕ → ℕ → ℕ → List ℕ
+elements_from l n k = list_from (λ i. get_or l i 0) n k
 
-  pub parts_more : (all : List ℕ) → all ≡ appended_all (part_statements c ps qs) d → all ≡ appended_all (part_statements c ps' qs') e
-  parts_more all inv = inv ∙ rw (left, right, o) refl
+-- the statements of two records' parts, shown once over their number: where k of n are there, one more comes
+module _ (c n : ℕ) (ps qs d₀ : List ℕ) where
+  module _ (k : ℕ) (d : List ℕ)
+      (inv : appended_all (part_statements c (elements_from ps n 0) (elements_from qs n 0)) d₀ ≡ appended_all (part_statements c (elements_from ps (n - k) k) (elements_from qs (n - k) k)) d) where
+    pub parts_more : (e : List ℕ) → e ≡ appended (Statement c (get_or ps k 0) (get_or qs k 0)) d → k < n
+        → appended_all (part_statements c (elements_from ps n 0) (elements_from qs n 0)) d₀
+        ≡ appended_all (part_statements c (elements_from ps (n - (k + 1)) (k + 1)) (elements_from qs (n - (k + 1)) (k + 1))) e
+    parts_more e q h =
+        let a : n - k ≡ suc (n - (k + 1)) = omega arith in
+        inv ∙ rw (a, q, add-one) refl
+
+-- the same as the code goes on: the statement of the first parts that are left comes next
+module _ (c p q : ℕ) (ps qs ps' qs' d e : List ℕ) (left : ps ≡ p ∷ ps') (right : qs ≡ q ∷ qs') (o : e ≡ appended (Statement c p q) d) where
+  pub parts_room : length d ≡ run_bytes → count_of d + length ps ≤ room → count_of e + length ps' ≤ room
+  parts_room l r = omega (arith, ap length left, ap count_of o, appended_count d (Statement c p q) l (omega (arith, ap length left)))
+
+  pub parts_next : (all : List ℕ) → all ≡ appended_all (part_statements c ps qs) d → all ≡ appended_all (part_statements c ps' qs') e
+  parts_next all inv = inv ∙ rw (left, right, o) refl
 
 -- where there are none left of one record, all are there
 pub parts_over : (c : ℕ) (ps qs d all : List ℕ) → (length ps ≡ 0) ⊎ (length qs ≡ 0) → all ≡ appended_all (part_statements c ps qs) d → d ≡ all

@@ -1,7 +1,7 @@
 -- `append_parts`: after some turns the statements of the parts that are left make all of them, and there is room for these.
 use mathlib.Core.Logic.{inl, inr}
 use borrow.Author.Rules.{rules}
-use Rattle.effects.proofs.EffectLaws.{parts_room, parts_more, parts_over}
+use Rattle.effects.proofs.EffectLaws.{parts_room, parts_next, parts_over}
 use Rattle.effects.proofs.append_parts.Goals as goal
 
 pub loop-left-preserved : goal.loop-left-preserved
@@ -10,8 +10,8 @@ loop-left-preserved c =
     let i = c.loop-left.invariant in
     record {
       long = search rules;
-      left = parts_room _ _ _ _ _ _ _ _ _ s.0 s.1 i.long c.append_item.ensures i.left;
-      onward = parts_more _ _ _ _ _ _ _ _ _ s.0 s.1 i.long c.append_item.ensures _ i.onward;
+      left = parts_room _ _ _ _ _ _ _ _ _ s.0 s.1 c.append_item.ensures i.long i.left;
+      onward = parts_next _ _ _ _ _ _ _ _ _ s.0 s.1 c.append_item.ensures _ i.onward;
     }
 
 pub returns : goal.returns
