@@ -15,6 +15,7 @@ use Rattle.base.specs.Choice.{pick}
 use Rattle.base.proofs.Tests.{fst_true, snd_true}
 use Rattle.std.specs.Prelude.{Result, Ok, Err, IsErr}
 use Rattle.std.proofs.Math.Bool.{and-false}
+use Rattle.std.proofs.lemmas.Grind.{get_or_default_zero}
 use Rattle.paper.specs.declared.refused.Fault.{Fault}
 use Rattle.paper.specs.declared.Found.{Found}
 use Rattle.paper.specs.Found.{as_read}
@@ -22,6 +23,10 @@ use Rattle.paper.specs.Sizes.{most_groups, top_group, number_limit}
 use Rattle.paper.specs.Refusals.{file_ends, bad_number}
 use Rattle.paper.specs.Numbers.{Read, got, fault, largest, above, groups_from, number_at, within, ranged_at}
 use Rattle.numbers.proofs.Limits.{limit, limit_some, limit_up}
+
+-- the byte that `get` gave, as the group read there
+pub byte_there : (s : List ℕ) (here b group : ℕ) → true ≡ ltb here (length s) → b ≡ get_or s here b → group ≡ b → (here < length s) × (group ≡ get_or s here 0)
+byte_there s here b group t e g = let h : here < length s = ltb-true _ _ (sym t) in (h, g ∙ e ∙ get_or_default_zero s here b h)
 
 -- what the groups from `at` on come to: at most `left` groups at `at` of a number that starts at `from`
 module _ (left top least : ℕ) (s : List ℕ) (from at : ℕ) where

@@ -19,8 +19,7 @@ fn largest_end(more: usize) -> u64
     if more == 0 { sizes::TOP_GROUP } else { 127 }
 }
 
-// The number at `at`. Its value is a u64, and no u32: document 02 widens numbers to 48 bits. The byte at `here` is tested for and
-// then indexed: what `get` promises names another default than the definitions do, so that the proof is no shorter with it.
+// The number at `at`. Its value is a u64, and no u32: document 02 widens numbers to 48 bits.
 pub fn number_at(file: &[u8], at: usize) -> Result<Found<u64>, Fault>
     ensures { as_read result ≡ number_at file.now at }
 {
@@ -34,10 +33,10 @@ pub fn number_at(file: &[u8], at: usize) -> Result<Found<u64>, Fault>
     let mut here = at;
     // After the group at `here` at most `more` may follow.
     for more in (0..sizes::MOST_GROUPS).rev() {
-        if file.len() <= here {
+        let Some(byte) = file.get(here) else {
             return Err(Refusal::FileEnds.at(at));
-        }
-        let group = u64::from(file[here]);
+        };
+        let group = u64::from(*byte);
         if group < 128 {
             if group < least || largest_end(more) < group {
                 return Err(Refusal::BadNumber.at(at));

@@ -18,6 +18,7 @@ pub struct Found<T> {
 }
 
 // "A pending item is a statement (1), an ask (2) or a news (3), each carrying cabinet, left and right, one byte each."
+// An enum of three cases that each carry the same: document 01 names this form.
 #[derive(Clone, Copy)]
 pub enum Item {
     Statement { cabinet: u8, left: u8, right: u8 },
@@ -25,7 +26,7 @@ pub enum Item {
     News { cabinet: u8, left: u8, right: u8 },
 }
 
-// A statement left = right at a cabinet: what a file lists, and what an item of the first kind carries.
+// A statement left = right at a cabinet, as a file lists it and as an item of the first kind carries it.
 #[derive(Clone, Copy)]
 pub struct Statement {
     pub cabinet: u8,
