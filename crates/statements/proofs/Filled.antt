@@ -10,6 +10,7 @@ use Rattle.paper.specs.Sizes.{most_parts, number_limit, room}
 use Rattle.paper.specs.Numbers.{Read, got, fault}
 use Rattle.paper.specs.Runs.{Statement, as_item}
 use Rattle.paper.specs.Files.{Form, times, record_form, reading}
+use Rattle.paper.specs.declared.Item.{Item}
 use Rattle.paper.specs.declared.Item.TheVariants.{Statement as statement}
 use Rattle.paper.specs.declared.refused.Fault.{Fault}
 use Rattle.paper.specs.declared.Found.{Found}
@@ -18,7 +19,7 @@ use Rattle.layout.specs.Fields.{count_of}
 use Rattle.layout.specs.Changes.{appended, appended_all, with_record, with_records}
 use Rattle.layout.proofs.Views.{appended_count}
 use Rattle.reading.specs.declared.RecordRead.{RecordRead}
-use Rattle.reading.specs.declared.StatementRead.{StatementRead}
+use Rattle.paper.specs.declared.Statement.{Statement as StatementRead}
 use Rattle.reading.specs.Reads.{read_as, next_of, WasRead, list_of, record_of, RecordFound, statement_form_of, statement_of}
 use Rattle.reading.proofs.Times.{times_count}
 use Rattle.reading.proofs.RecordFinds.{symbol_small}
@@ -137,8 +138,10 @@ module _ (s k n : ℕ) (f : List ℕ) (at : ℕ) (d₀ : List ℕ) where
         statement_again = not_refused (statement_form_of s k) f n _ _ i here h.filled.left statement_of g x e
 
         pub statement_filled : count_of d₀ + n ≤ room → (y : Found StatementRead) → x ≡ Ok y
-            → (d' : List ℕ) → length d' ≡ run_bytes → d' ≡ appended (statement y.value.cabinet y.value.left y.value.right) d → StatementsTo (i + 1) y.next d'
-        statement_filled w y o d' l p =
+            → (j : Item) → j ≡ statement y.value.cabinet y.value.left y.value.right
+            → (d' : List ℕ) → length d' ≡ run_bytes → d' ≡ appended j d → StatementsTo (i + 1) y.next d'
+        statement_filled w y o j z d' l q =
+            let p : d' ≡ appended (statement y.value.cabinet y.value.left y.value.right) d = q ∙ ap (λ (k : Item). appended k d) z in
             record {
               filled =
                   one_filled all_appended one_appended (λ i d. refl) (λ i a l d. refl) (statement_form_of s k) n f at d₀ i here d h.filled

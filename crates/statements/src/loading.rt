@@ -10,7 +10,7 @@ ghost use Rattle.statements.specs.Writes.{load_answer, load_bytes};
 
 use layout::Run;
 use paper::{Fault, Found, Item, Refusal};
-use reading::{StatementRead, check_file, read_record, read_statement};
+use reading::{Checked, check_file, read_record, read_statement};
 
 // The `count` records at `at` of the file, with v unknowns, as the run's first ones. They were read before, so that no read of
 // them can be refused: it is proved where `unwrap` asks it. Statements have a function of their own, below: another reader and
@@ -36,19 +36,7 @@ fn fill_statements(run: &mut Run, file: &[u8], at: usize, s: usize, n: usize, co
     let mut here = at;
     for _ in 0..count {
         let Found { value, next } = read_statement(file, here, s, n).unwrap();
-        let StatementRead {
-            cabinet,
-            left,
-            right,
-        } = value;
-        layout::append_item(
-            run,
-            Item::Statement {
-                cabinet,
-                left,
-                right,
-            },
-        );
+        layout::append_item(run, Item::from(value));
         here = next;
     }
 }
@@ -58,19 +46,24 @@ pub fn load(file: &[u8], run: &mut [u8]) -> Result<(), Fault>
     ensures { load_answer result run.new ≡ load_bytes file.now run.old }
 {
     let Some(run) = run.as_mut_array() else {
-        return Err(Fault {
-            refusal: Refusal::WrongLength,
-            at: 0,
-        });
+        return Err(Refusal::WrongLength.at(0));
     };
-    let checked = check_file(file)?.value;
-    let s = checked.cabinets;
-    let v = checked.unknowns;
-    let r = checked.records;
-    let e = checked.statements;
+    let Checked {
+        sizes,
+        statements,
+        table,
+        list,
+    } = check_file(file)?.value;
     layout::clear(run);
-    layout::set_sizes(run, s as u8, v as u8, r as u8, e as u8);
-    fill_records(run, file, checked.table, v, r);
-    fill_statements(run, file, checked.list, s, v + r, e);
+    // `as` is proved to lose nothing: a TryFrom would have an Err that gives up.
+    layout::set_sizes(
+        run,
+        sizes.cabinets as u8,
+        sizes.unknowns as u8,
+        sizes.records as u8,
+        statements as u8,
+    );
+    fill_records(run, file, table, sizes.unknowns, sizes.records);
+    fill_statements(run, file, list, sizes.cabinets, sizes.entries(), statements);
     Ok(())
 }
