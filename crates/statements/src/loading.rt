@@ -14,7 +14,7 @@ use reading::{Checked, check_file, read_record, read_statement};
 
 // The `count` records at `at` of the file, with v unknowns, as the run's first ones. They were read before, so that no read of
 // them can be refused: it is proved where `unwrap` asks it. Statements have a function of their own, below: another reader and
-// another writer, and what is alike is proved once, in proofs/Filled.
+// another writer, and what is alike is proved once, in proofs/Filled. v, s, n and the count are the forms' own parameters.
 fn fill_records(run: &mut Run, file: &[u8], at: usize, v: usize, count: usize)
     requires { (v ≤ most_unknowns) × (count ≤ most_records) × WasRead (reading (times count (record_form v)) file.now at) }
     ensures { run.new ≡ with_records 0 (list_of (reading (times count (record_form v)) file.now at)) run.old }

@@ -49,8 +49,8 @@ fn as_loaded(run: &Run) -> bool
         && all_statements(run, e)
 }
 
-// A file in the making, and where its next number goes. It stands beside printing's Text, which is alike: a type's methods stand in its
-// own crate, and each of the two has its own. `as` below, for no `From` makes a u64 of a usize; each method says what it adds.
+// A file in the making, and where its next number goes. It stands beside printing's Text, which is alike: a type's methods stand in
+// its own crate, and each of the two has its own. `as` below, for no `From` makes a u64 of a usize; each method says what it adds.
 #[derive(Drop)]
 struct Writer<'a> {
     file: &'a mut [u8],

@@ -1,5 +1,5 @@
 -- `plate` puts the symbol, then the parts.
-use mathlib.Core.Path.{◌≡◌, ◌∙◌}
+use mathlib.Core.Path.{◌≡◌}
 use native.Mathlib.Omega.{arith}
 use Rattle.paper.specs.Programs.{spaced}
 use Rattle.printing.specs.Prints.{part_at}
