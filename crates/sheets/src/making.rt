@@ -190,7 +190,7 @@ impl Lent {
     }
 
     // Makes one call; where there is no such kind, the run is hashed.
-    pub fn make(&mut self, out: &impl Print, call: Call) -> io::Result<Line> {
+    pub(crate) fn make(&mut self, out: &impl Print, call: Call) -> io::Result<Line> {
         let bytes = call.bytes;
         let line = match call.kind {
             Some(Kind::Load) => self.load(bytes),
