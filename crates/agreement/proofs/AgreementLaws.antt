@@ -76,7 +76,7 @@ module _ (d : List ℕ) (v x y a b : ℕ) (m m' : Table) (g : SoundRun d v) (ex 
   record_y : v ≤ b → ends_of d y ≡ at_record (record_of d (b - v))
   record_y h = rw g.unknowns (ey.is ∙ record_end d b (omega (arith, g.unknowns)))
 
-  left_ends_open : a < v → Unknowns (ends_of d) x y m (eqb a b) m'
+  pub left_ends_open : a < v → Unknowns (ends_of d) x y m (eqb a b) m'
   left_ends_open h =
       rw next
       (⊎_elim (λ (l : b < v). opens n new (open_x h) (open_y l))
@@ -173,7 +173,7 @@ unfolding table_of
 unknowns_are d v g = g.unknowns
 
 -- asked with no pair met, the answer is agreement to depth V
-none_met_answers : (d : List ℕ) (v x y : ℕ) (s : Bool) (m : Table) → Unknowns (ends_of d) x y (λ p q. false) s m
+pub none_met_answers : (d : List ℕ) (v x y : ℕ) (s : Bool) (m : Table) → Unknowns (ends_of d) x y (λ p q. false) s m
     → SoundRun d v → Bytes d → x < v → y < v → s ≡ agree (ends_of d) v x y
 none_met_answers d v x y s m u g b hx hy = met_pairs_answer_depth_V (ends_of d) v (λ z h. low z) u hx hy
   where

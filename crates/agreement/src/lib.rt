@@ -14,7 +14,7 @@ ghost use Rattle.agreement.specs.Ends.{ends_of};
 ghost use Rattle.agreement.specs.Met.{met_of, settled_in};
 ghost use Rattle.agreement.specs.Agreed.{UnknownsAgree, PartsAgree};
 
-pub use ends::RunEnds;
+pub use ends::{RunEnds, end_of};
 use met::Met;
 
 // The table after, if x and y agree, two unknowns that were not met before: they are now, and their ends are compared.
