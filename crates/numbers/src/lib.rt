@@ -78,6 +78,18 @@ pub fn ranged_at<R: Refuses>(
     }
 }
 
+// The same of any number: of a caller that has no `Refusal`, told as the number and the position.
+pub fn ranged_by_number(
+    file: &[u8],
+    at: usize,
+    range: Range<u64>,
+    refusal: usize,
+) -> Result<Found<u64>, (usize, usize)>
+    ensures { read_or_told (λ told. told.0) (λ told. told.1) result ≡ ranged_at range.start range.end refusal file.now at }
+{
+    ranged_at(file, at, range, refusal)
+}
+
 // The groups of `n` at `at` in `file`, and the position after them. They are not counted: a number below
 // the paper's number_limit has at most most_groups of them. `as` is proved to lose nothing: a TryFrom would have an Err that gives up.
 pub fn write_number(file: &mut [u8], at: usize, n: u64) -> usize
