@@ -8,8 +8,7 @@ use native.Mathlib.Numerals.{add-one}
 use native.Mathlib.Omega.{arith}
 use borrow.Author.Tests.{ne_eqb, eqb-true}
 use lib.Dec.{eqb}
-use Rattle.std.specs.Prelude.{Option, Some, None, is_some}
-use Rattle.std.specs.Bool.{then_some}
+use Rattle.std.specs.Prelude.{Result, Ok, Err, is_ok}
 use Rattle.base.specs.Choice.{pick}
 use Rattle.base.specs.Lists.{list_from, Bytes}
 use Rattle.base.proofs.Tests.{snd_true}
@@ -28,7 +27,7 @@ use Rattle.agreement.specs.Given.{SoundRun}
 use Rattle.agreement.specs.Ends.{ends_of, EndsAt}
 use Rattle.agreement.specs.declared.met.Met.{Met}
 use Rattle.agreement.specs.Met.{met_of, settled_in}
-use Rattle.agreement.specs.Agreed.{UnknownsApart, UnknownsAgree, PartsApart, PartsAgree}
+use Rattle.agreement.specs.Agreed.{UnknownsAgree, PartsAgree}
 use Rattle.agreement.proofs.Ranges.{tests}
 use Rattle.agreement.proofs.Chains.{open_end, record_end}
 use Rattle.agreement.proofs.MetTable.{two_unknowns, not_met}
@@ -76,7 +75,7 @@ module _ (d : List ℕ) (v x y a b : ℕ) (m m' : Table) (g : SoundRun d v) (ex 
   record_y : v ≤ b → ends_of d y ≡ at_record (record_of d (b - v))
   record_y h = rw g.unknowns (ey.is ∙ record_end d b (omega (arith, g.unknowns)))
 
-  left_ends_open : a < v → Unknowns (ends_of d) x y m (eqb a b) m'
+  pub left_ends_open : a < v → Unknowns (ends_of d) x y m (eqb a b) m'
   left_ends_open h =
       rw next
       (⊎_elim (λ (l : b < v). opens n new (open_x h) (open_y l))
@@ -86,22 +85,18 @@ module _ (d : List ℕ) (v x y a b : ℕ) (m m' : Table) (g : SoundRun d v) (ex 
       (lt_or_le b v))
 
   -- an open end agrees with itself alone
-  pub ends_compared : a < v → (after : Met) → m' ≡ met_of after.words → (o : Option Met) → o ≡ then_some (eqb a b) after → UnknownsAgree (ends_of d) x y m o
-  ends_compared h after p o q = subst (UnknownsAgree (ends_of d) x y m) (sym q) (by_test (eqb a b) (left_ends_open h))
-    where
-      by_test : (c : Bool) → Unknowns (ends_of d) x y m c m' → UnknownsAgree (ends_of d) x y m (then_some c after)
-      by_test true u = subst (Unknowns (ends_of d) x y m true) p u
-      by_test false u = record { after = m'; is = u }
+  pub ends_compared : a < v → (c : Bool) → eqb a b ≡ c → Unknowns (ends_of d) x y m c m'
+  ends_compared h c t = subst (λ (z : Bool). Unknowns (ends_of d) x y m z m') t (left_ends_open h)
 
-  pub right_ends_open : v ≤ a → b < v → UnknownsApart (ends_of d) x y m
-  right_ends_open h l = record { after = m'; is = rw next (right_open n new (record_x h) (open_y l)) }
+  pub right_ends_open : v ≤ a → b < v → Unknowns (ends_of d) x y m false m'
+  right_ends_open h l = rw next (right_open n new (record_x h) (open_y l))
 
   module _ (h : v ≤ a) (l : v ≤ b) (c : Bool) (k : c ≡ same_head (record_of d (a - v)) (record_of d (b - v))) where
-    pub heads_apart : c ≡ false → UnknownsApart (ends_of d) x y m
-    heads_apart t = record { after = m'; is = rw next (differ n new (record_x h) (record_y l) (sym k ∙ t)) }
+    pub heads_apart : c ≡ false → Unknowns (ends_of d) x y m false m'
+    heads_apart t = rw next (differ n new (record_x h) (record_y l) (sym k ∙ t))
 
     module _ (t : c ≡ true) (p : ℕ) (r : Reads (part_count_of d (a - v)) byte_limit p) where
-      compared : (s : Bool) (m'' : Table)
+      pub compared : (s : Bool) (m'' : Table)
           → Parts (ends_of d) (list_from (part_of d (a - v)) p 0) (list_from (part_of d (b - v)) p 0) m' s m''
           → Unknowns (ends_of d) x y m s m''
       unfolding record_of
@@ -110,11 +105,11 @@ module _ (d : List ℕ) (v x y a b : ℕ) (m m' : Table) (g : SoundRun d v) (ex 
           (subst₂ (λ (i j : ℕ). Parts (ends_of d) (list_from (part_of d (a - v)) i 0) (list_from (part_of d (b - v)) j 0) (meeting m x y) s m'') r.same
           (same_counted d (a - v) (b - v) p c k t r) (rw next at ps))
 
-      pub parts_compared : (o : Option Met)
+      pub parts_compared : (o : Result Met Met)
           → PartsAgree (ends_of d) (list_from (part_of d (a - v)) p 0) (list_from (part_of d (b - v)) p 0) m' o
           → UnknownsAgree (ends_of d) x y m o
-      parts_compared None ps = record { after = ps.after; is = compared false ps.after ps.is }
-      parts_compared (Some after) ps = compared true (met_of after.words) ps
+      parts_compared (Ok after) ps = compared true (met_of after.words) ps
+      parts_compared (Err after) ps = compared false (met_of after.words) ps
 
 -- "pairs not yet met fall"
 pub new_pair_falls : (t v x y : ℕ) (m m' : Table) → m' ≡ meeting m x y → settled_in m x y ≡ false → x < v → y < v
@@ -148,8 +143,8 @@ module _ (v : ℕ) (e : ℕ → End) (f g : ℕ → ℕ) (n : ℕ) where
       next_place : n - j ≡ suc (n - (j + 1))
       next_place = omega arith
 
-      pub part_differs : UnknownsApart e p q m → PartsApart e (list_from f n 0) (list_from g n 0) m₀
-      part_differs u = record { after = u.after; is = w.rest false u.after (rw next_place (apart (here false u.after u.is))) }
+      pub part_differs : (m' : Table) → Unknowns e p q m false m' → Parts e (list_from f n 0) (list_from g n 0) m₀ false m'
+      part_differs m' u = w.rest false m' (rw next_place (apart (here false m' u)))
 
       pub one_more_compared : (m' : Table) → Unknowns e p q m true m' → Compared v e f g n (j + 1) m₀ m'
       one_more_compared m' u =
@@ -173,7 +168,7 @@ unfolding table_of
 unknowns_are d v g = g.unknowns
 
 -- asked with no pair met, the answer is agreement to depth V
-none_met_answers : (d : List ℕ) (v x y : ℕ) (s : Bool) (m : Table) → Unknowns (ends_of d) x y (λ p q. false) s m
+pub none_met_answers : (d : List ℕ) (v x y : ℕ) (s : Bool) (m : Table) → Unknowns (ends_of d) x y (λ p q. false) s m
     → SoundRun d v → Bytes d → x < v → y < v → s ≡ agree (ends_of d) v x y
 none_met_answers d v x y s m u g b hx hy = met_pairs_answer_depth_V (ends_of d) v (λ z h. low z) u hx hy
   where
@@ -185,7 +180,7 @@ one_agrees d v x y e g f hx hy =
     let m : Table = λ p q. false in
     none_met_answers d v x y true m (subst (λ (z : ℕ). Unknowns (ends_of d) x z m true m) e same) g f hx hy
 
-pub asked_answers : (d : List ℕ) (v x y : ℕ) (o : Option Met) (m : Table) → m ≡ (λ p q. false) → UnknownsAgree (ends_of d) x y m o
-    → SoundRun d v → Bytes d → x < v → y < v → is_some o ≡ agree (ends_of d) v x y
-asked_answers d v x y None m e u g f hx hy = none_met_answers d v x y false u.after (rw e at u.is) g f hx hy
-asked_answers d v x y (Some after) m e u g f hx hy = none_met_answers d v x y true (met_of after.words) (rw e at u) g f hx hy
+pub asked_answers : (d : List ℕ) (v x y : ℕ) (o : Result Met Met) (m : Table) → m ≡ (λ p q. false) → UnknownsAgree (ends_of d) x y m o
+    → SoundRun d v → Bytes d → x < v → y < v → is_ok o ≡ agree (ends_of d) v x y
+asked_answers d v x y (Ok after) m e u g f hx hy = none_met_answers d v x y true (met_of after.words) (rw e at u) g f hx hy
+asked_answers d v x y (Err after) m e u g f hx hy = none_met_answers d v x y false (met_of after.words) (rw e at u) g f hx hy

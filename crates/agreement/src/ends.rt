@@ -20,7 +20,7 @@ pub struct RunEnds<'a> {
 }
 
 // The entry at which the owner marks from x on end: an unknown without one, or a record. Document 01 names the recursion.
-fn end_of(run: &Run, v: usize, x: usize) -> usize
+pub fn end_of(run: &Run, v: usize, x: usize) -> usize
     requires { SoundRun run.now v × (x < v) }
     ensures { EndsAt run.now x result }
 {

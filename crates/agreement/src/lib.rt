@@ -14,12 +14,13 @@ ghost use Rattle.agreement.specs.Ends.{ends_of};
 ghost use Rattle.agreement.specs.Met.{met_of, settled_in};
 ghost use Rattle.agreement.specs.Agreed.{UnknownsAgree, PartsAgree};
 
-pub use ends::RunEnds;
+pub use ends::{RunEnds, end_of};
 use met::Met;
 
-// The table after, if x and y agree, two unknowns that were not met before: they are now, and their ends are compared.
+// Whether x and y agree, two unknowns that were not met before: they are now, and their ends are compared. The table after comes back,
+// as Ok where they agree and as Err where they do not.
 #[cycle(agree_parts_agree_unknowns)]
-fn agree_unknowns(ends: &RunEnds, x: usize, y: usize, met: Met) -> Option<Met>
+fn agree_unknowns(ends: &RunEnds, x: usize, y: usize, met: Met) -> Result<Met, Met>
     requires { (x < ends.now.unknowns) × (y < ends.now.unknowns) × (settled_in (met_of met.words) x y ≡ false) }
     ensures { UnknownsAgree (ends_of ends.now.run.now) x y (met_of met.words) result }
 {
@@ -29,22 +30,22 @@ fn agree_unknowns(ends: &RunEnds, x: usize, y: usize, met: Met) -> Option<Met>
     let a = ends.end_of(x);
     let b = ends.end_of(y);
     if a < v {
-        return (a == b).then_some(next);
+        return if a == b { Ok(next) } else { Err(next) };
     }
     if b < v {
-        return None;
+        return Err(next);
     }
     if !layout::same_head(run, a - v, b - v) {
-        return None;
+        return Err(next);
     }
     let n = layout::part_count(run, a - v);
     agree_parts(ends, a - v, b - v, n, next)
 }
 
-// The table after, if the parts of records i and k, n each, agree. The table is not copied for a pair that is not to be compared. The parts
-// are read by one index, since what is promised after j turns is of the first j parts of both.
+// Whether the parts of records i and k, n each, agree, with the table after in either answer. The table is not copied for a pair that
+// is not to be compared. The parts are read by one index, since what is promised after j turns is of the first j parts of both.
 #[cycle(agree_parts_agree_unknowns)]
-fn agree_parts(ends: &RunEnds, i: usize, k: usize, n: usize, met: Met) -> Option<Met>
+fn agree_parts(ends: &RunEnds, i: usize, k: usize, n: usize, met: Met) -> Result<Met, Met>
     requires { OneRecord ends.now.run.now ends.now.unknowns i n × OneRecord ends.now.run.now ends.now.unknowns k n }
     ensures { PartsAgree (ends_of ends.now.run.now) (list_from (part_of ends.now.run.now i) n 0) (list_from (part_of ends.now.run.now k) n 0) (met_of met.words) result }
 {
@@ -57,7 +58,7 @@ fn agree_parts(ends: &RunEnds, i: usize, k: usize, n: usize, met: Met) -> Option
             next = agree_unknowns(ends, p, q, next)?;
         }
     }
-    Some(next)
+    Ok(next)
 }
 
 impl<'a> RunEnds<'a> {
@@ -66,6 +67,6 @@ impl<'a> RunEnds<'a> {
         requires { (x < self.now.unknowns) × (y < self.now.unknowns) }
         ensures { result ≡ agree (ends_of self.now.run.now) self.now.unknowns x y }
     {
-        x == y || agree_unknowns(self, x, y, Met::new()).is_some()
+        x == y || agree_unknowns(self, x, y, Met::new()).is_ok()
     }
 }

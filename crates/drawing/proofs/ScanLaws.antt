@@ -42,6 +42,18 @@ module _ (d : List ℕ) (i : ℕ) where
       ∙ ap (λ (b : Bool). pick b i (first_of (ready_at d) (count_of d) 0)) (le-ltb i (count_of d) h)
       ∙ ap (λ (n : ℕ). first_of (ready_at d) n 0) z
 
+-- from the first place on there is one scan: of all places, as the second would be
+ready_first : (d : List ℕ) → ready_from d 0 ≡ first_of (ready_at d) (count_of d - 0) 0
+unfolding ready_from
+ready_first d = go (ltb (first_of (ready_at d) (count_of d - 0) 0) (count_of d))
+  where
+    z : count_of d ≡ count_of d - 0
+    z = omega arith
+
+    go : (b : Bool) → pick b (first_of (ready_at d) (count_of d - 0) 0) (first_of (ready_at d) (count_of d) 0) ≡ first_of (ready_at d) (count_of d - 0) 0
+    go true = refl
+    go false = ap (λ (n : ℕ). first_of (ready_at d) n 0) z
+
 -- what the scan finds from a place on, in round 0 and in round 1
 abbrev scanned : List ℕ → ℕ → ℕ → ℕ
 scanned d zero i = ready_from d i
@@ -54,6 +66,11 @@ pub record Scan (d : List ℕ) (from round place : ℕ) : Type 0 where
 
 pub scan_start : (d : List ℕ) (from : ℕ) → from ≤ count_of d → Scan d from 0 from
 scan_start d from h = record { within = h; same = refl }
+
+-- the scan that begins at `from`: round 0, or round 1 at once where no place is before `from`
+pub scan_first : (d : List ℕ) (from : ℕ) → from ≤ count_of d → Scan d from (1 - from) from
+scan_first d zero h = record { within = h; same = sym (ready_first d) }
+scan_first d (suc k) h = let z : 1 - suc k ≡ 0 = omega arith in rw z (scan_start d (suc k) h)
 
 module _ (d : List ℕ) (from round place : ℕ) (h : Scan d from round place) (n : ℕ) (c : n ≡ count_of d) where
   module _ (l : place < n) (w : Bool) (e : w ≡ waits_bytes d place) where

@@ -16,19 +16,18 @@ fn ready_from(run: &Run, from: usize) -> usize
     ensures { result ≡ ready_from run.now from }
 {
     let n = layout::count(run);
-    // Document 01 names this form: the place is given by break, and a label leaves the inner scan.
-    'scan: {
-        for place in from..n {
+    let mut start = from;
+    // Document 01 names this form: a loop gives the place by break, and its label leaves the inner scan. It goes round once.
+    'scan: loop {
+        for place in start..n {
             if !rules::waits(run, place) {
                 break 'scan place;
             }
         }
-        for place in 0..n {
-            if !rules::waits(run, place) {
-                break 'scan place;
-            }
+        if start == 0 {
+            break n;
         }
-        n
+        start = 0;
     }
 }
 

@@ -4,15 +4,16 @@ use mathlib.Core.Bool.{Bool, true, false}
 use mathlib.Core.Logic.{◌⊎◌, inl, inr}
 use mathlib.Core.List.{List, [], ◌∷◌}
 use Prim.Native.Nat.{ℕ, zero, suc, ◌+◌, ◌-◌, ◌≤◌, ◌<◌}
+use native.Mathlib.Nat.{zero-add}
 use native.Mathlib.Numerals.{add-one}
 use native.Mathlib.Omega.{arith}
 use lib.Dec.{ltb}
 use lib.ListN.{length, get_or, set, take, drop}
-use lib.Seq.{get_or-set_other}
+use lib.Seq.{get_or-set_other, ext_get_or}
 use Rattle.base.specs.Choice.{pick}
 use Rattle.base.specs.Regions.{put, gone}
 use Rattle.base.specs.Lists.{list_from}
-use Rattle.base.proofs.Froms.{from_length}
+use Rattle.base.proofs.Froms.{from_length, from_get_d}
 use Rattle.base.proofs.Positions.{drop_at_element}
 use Rattle.base.proofs.Regions.{put_before, length_gone}
 use Rattle.paper.specs.Sizes.{most_parts, room}
@@ -100,6 +101,12 @@ items_more js j k d₀ d e inv q h = inv ∙ rw (drop_at_element js k j h, q) re
 abbrev pub elements_from : List ℕ → ℕ → ℕ → List ℕ
 elements_from l n k = list_from (λ i. get_or l i 0) n k
 
+-- all of them, from the first on, are the list
+pub all_elements : (l : List ℕ) (n : ℕ) → length l ≡ n → elements_from l n 0 ≡ l
+all_elements l n e =
+    ext_get_or 0 (elements_from l n 0) l (from_length _ n 0 ∙ sym e)
+    (λ k h. from_get_d _ n 0 k 0 (omega (arith, h, from_length (λ i. get_or l i 0) n 0)) ∙ ap (λ i. get_or l i 0) (zero-add k))
+
 -- the statements of two records' parts, shown once over their number: where k of n are there, one more comes
 module _ (c n : ℕ) (ps qs d₀ : List ℕ) where
   module _ (k : ℕ) (d : List ℕ)
@@ -110,14 +117,6 @@ module _ (c n : ℕ) (ps qs d₀ : List ℕ) where
     parts_more e q h =
         let a : n - k ≡ suc (n - (k + 1)) = omega arith in
         inv ∙ rw (a, q, add-one) refl
-
--- the same as the code goes on: the statement of the first parts that are left comes next
-module _ (c p q : ℕ) (ps qs ps' qs' d e : List ℕ) (left : ps ≡ p ∷ ps') (right : qs ≡ q ∷ qs') (o : e ≡ appended (Statement c p q) d) where
-  pub parts_room : length d ≡ run_bytes → count_of d + length ps ≤ room → count_of e + length ps' ≤ room
-  parts_room l r = omega (arith, ap length left, ap count_of o, appended_count d (Statement c p q) l (omega (arith, ap length left)))
-
-  pub parts_next : (all : List ℕ) → all ≡ appended_all (part_statements c ps qs) d → all ≡ appended_all (part_statements c ps' qs') e
-  parts_next all inv = inv ∙ rw (left, right, o) refl
 
 -- where there are none left of one record, all are there
 pub parts_over : (c : ℕ) (ps qs d all : List ℕ) → (length ps ≡ 0) ⊎ (length qs ≡ 0) → all ≡ appended_all (part_statements c ps qs) d → d ≡ all

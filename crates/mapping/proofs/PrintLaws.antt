@@ -103,7 +103,7 @@ module _ (s d0 : List ℕ) (long : length d0 ≡ run_bytes) (d1 : List ℕ) wher
         view : Viewed loading.file ends.steps (drawn_bytes (loaded_bytes loading.file))
         view = viewed s loading.file accepted ends.carried
 
-        drawn_sound : sound_bytes d2 ≡ true
+        pub drawn_sound : sound_bytes d2 ≡ true
         drawn_sound = ap sound_bytes drawn_is ∙ ready_sound (drawn_bytes (loaded_bytes loading.file)) view.ready
 
         text_is : printed s ≡ printed_run loading.file.table (run_of d2) (clash_of d2)

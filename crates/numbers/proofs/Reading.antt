@@ -20,8 +20,9 @@ use Rattle.paper.specs.declared.refused.Fault.{Fault}
 use Rattle.paper.specs.declared.Found.{Found}
 use Rattle.paper.specs.Found.{as_read}
 use Rattle.paper.specs.Sizes.{most_groups, top_group, number_limit}
-use Rattle.paper.specs.Refusals.{file_ends, bad_number}
+use Rattle.paper.specs.Refusals.{file_ends, bad_number, refusal_number}
 use Rattle.paper.specs.Numbers.{Read, got, fault, largest, above, groups_from, number_at, within, ranged_at}
+use Rattle.numbers.specs.Told.{read_or_told}
 use Rattle.numbers.proofs.Limits.{limit, limit_some, limit_up}
 
 -- the byte that `get` gave, as the group read there
@@ -230,6 +231,11 @@ module _ (low below j : ℕ) (s : List ℕ) (at : ℕ) where
 
     pub ranged_got : low ≤ n → n < below → got n next ≡ ranged_at low below j s at
     ranged_got h1 h2 = rw (le-leb _ _ h1, lt-ltb _ _ h2) at read_in_range
+
+-- what is told of a `Refusal` is what `as_read` says
+pub told_as_read : {A : Type 0} (r : Result (Found A) Fault) → read_or_told (λ e. refusal_number e.refusal) (λ e. e.at) r ≡ as_read r
+told_as_read (Ok x) = refl
+told_as_read (Err e) = refl
 
 -- what callers ask of a number that was read
 pub number_next : (s : List ℕ) (at n next : ℕ) → number_at s at ≡ got n next → (at < next) × (next ≤ length s) × (n < number_limit)

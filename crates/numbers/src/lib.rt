@@ -5,11 +5,14 @@
 ghost use Rattle.std.specs.Prelude.{◌≡◌, ◌+◌, ◌≤◌, ◌<◌, length};
 ghost use Rattle.base.specs.Puts.{PutFrom};
 ghost use Rattle.paper.specs.Sizes.{top_group, number_limit};
-ghost use Rattle.paper.specs.Refusals.{refusal_number};
 ghost use Rattle.paper.specs.Numbers.{largest, number_at, ranged_at, number_bytes};
 ghost use Rattle.paper.specs.Found.{as_read};
+ghost use Rattle.numbers.specs.Told.{read_or_told};
+
+mod refuses; // refuses.rt: what a number out of its range is refused by
 
 use paper::{Fault, Found, Refusal, sizes};
+pub use refuses::Refuses;
 use std::ops::Range;
 
 // The largest group that may end a number with `more` groups allowed after it.
@@ -55,24 +58,36 @@ pub fn number_at(file: &[u8], at: usize) -> Result<Found<u64>, Fault>
 }
 
 // The number at `at`, refused by `refusal` unless it is in `range`.
-pub fn ranged_at(
+pub fn ranged_at<R: Refuses>(
     file: &[u8],
     at: usize,
     range: Range<u64>,
-    refusal: Refusal,
-) -> Result<Found<u64>, Fault>
-    ensures { as_read result ≡ ranged_at range.start range.end (refusal_number refusal) file.now at }
+    refusal: R,
+) -> Result<Found<u64>, R::Told>
+    ensures { read_or_told R.number_told R.position_told result ≡ ranged_at range.start range.end (R.number refusal) file.now at }
 {
     // Document 01 names this form: each number read is taken apart by let else.
     let read = number_at(file, at);
     let Ok(number) = read else {
-        return read;
+        return read.map_err(|fault| R::malformed(fault));
     };
     if range.contains(&number.value) {
         Ok(number)
     } else {
-        Err(refusal.at(at))
+        Err(refusal.told_at(at))
     }
+}
+
+// The same of any number: of a caller that has no `Refusal`, told as the number and the position.
+pub fn ranged_by_number(
+    file: &[u8],
+    at: usize,
+    range: Range<u64>,
+    refusal: usize,
+) -> Result<Found<u64>, (usize, usize)>
+    ensures { read_or_told (λ told. told.0) (λ told. told.1) result ≡ ranged_at range.start range.end refusal file.now at }
+{
+    ranged_at(file, at, range, refusal)
 }
 
 // The groups of `n` at `at` in `file`, and the position after them. They are not counted: a number below

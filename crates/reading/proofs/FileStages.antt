@@ -15,7 +15,7 @@ use Rattle.reading.proofs.Onward.{bind_on, bind_fault, bind_got, number_got}
 use Rattle.reading.proofs.Times.{times_count}
 
 -- a table's statements, by its cabinets and its entries
-statement_form_of_lem : (t : Table) → statement_form t ≡ statement_form_of t.cabinets (entries t)
+pub statement_form_of_lem : (t : Table) → statement_form t ≡ statement_form_of t.cabinets (entries t)
 statement_form_of_lem t = refl
 
 -- the records after those sizes, and a statement after them

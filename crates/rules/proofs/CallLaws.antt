@@ -1,11 +1,12 @@
--- Laws of a list of places: a step keeps the bytes ready for the next, and the turns of the list.
+-- Laws of the calls: what a step leaves, which keeps the bytes ready for the next, and the turns of a list of places.
 use Rattle.std.specs.Prelude.{Result, Ok, Err}
 use mathlib.Core.Path.{◌≡◌, refl, sym, subst, ◌∙◌}
-use mathlib.Core.Bool.{true}
+use mathlib.Core.Bool.{Bool, true}
 use mathlib.Core.List.{List}
 use Prim.Native.Nat.{ℕ, zero, suc, ◌+◌, ◌≤◌, ◌<◌}
 use native.Mathlib.Omega.{arith}
 use lib.ListN.{length, get_or, drop, drop_of_length-le}
+use borrow.Author.Tests.{eq-eqb}
 use Rattle.base.specs.Lists.{Bytes}
 use Rattle.base.proofs.Positions.{drop_at_element}
 use Rattle.paper.specs.Refusals.{refusal_number}
@@ -13,11 +14,17 @@ use Rattle.paper.specs.declared.refused.Refusal.{Refusal}
 use Rattle.layout.specs.Offsets.{run_bytes}
 use Rattle.layout.specs.Soundness.{sound_bytes}
 use Rattle.layout.proofs.SoundViews.{tested, shaped, view_sound, canonical}
-use Rattle.rules.specs.Bytes.{Out, out, taken_bytes, onward_bytes, all_taken}
+use Rattle.rules.specs.Bytes.{Out, out, taken_bytes, step_bytes, onward_bytes, all_taken}
 use Rattle.rules.specs.Results.{taken}
 use Rattle.rules.specs.Numbers.{rule_number}
 use Rattle.rules.specs.declared.numbered.Rule.{Rule}
 use Rattle.rules.proofs.Bridge.{Ready, bytes_of, taken_left}
+
+-- a step of sound bytes takes the item
+pub step_taken : (d : List ℕ) (p : ℕ) (h : length d ≡ run_bytes) (b : Bool) (e : b ≡ sound_bytes d) (m k : ℕ) (d' : List ℕ)
+    → b ≡ true → out m k d' ≡ taken_bytes d p → out m k d' ≡ step_bytes d p
+unfolding step_bytes
+step_taken d p h b e m k d' f o = rw (eq-eqb (length d) run_bytes h, ← e, f) o
 
 -- sound bytes are ready, and a step leaves them so
 pub sound_ready : (d : List ℕ) → length d ≡ run_bytes → sound_bytes d ≡ true → Bytes d → Ready d

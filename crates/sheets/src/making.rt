@@ -1,6 +1,6 @@
 // Each call made on the lent buffers, by what stands in its bytes; what is two bytes long there has its low byte first. A sheet lends
 // any length of a buffer, so that the length stands beside it. `as` makes a u64 of a usize, as in `Line::new`.
-ghost use Rattle.std.specs.Prelude.{◌≤◌, ◌<◌};
+ghost use Rattle.std.specs.Prelude.{◌≤◌, ◌<◌, length};
 
 use super::calls::{Call, Kind};
 use super::lines::Line;
@@ -19,7 +19,9 @@ pub const FILE_SPACE: usize = paper::sizes::LONGEST_FILE + 1;
 const LIST_SPACE: usize = 16384;
 
 // The places of a list, two bytes each, put into `places`; gives those that there are.
-fn read_places<'a>(bytes: &[u8], places: &'a mut [u32; LIST_SPACE]) -> &'a [u32] {
+fn read_places<'a>(bytes: &[u8], places: &'a mut [u32; LIST_SPACE]) -> &'a [u32]
+    ensures { length result.now ≤ LIST_SPACE }
+{
     let pairs = bytes.chunks(2);
     let count = pairs.len().min(LIST_SPACE);
     for (place, pair) in places.iter_mut().zip(pairs) {

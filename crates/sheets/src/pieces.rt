@@ -1,5 +1,5 @@
 // A sheet's bytes, 0 beyond its end, and the hash that stands for a buffer.
-ghost use Rattle.std.specs.Prelude.{◌≡◌, ◌+◌, ◌*◌, ◌≤◌, length, get_or, take, drop};
+ghost use Rattle.std.specs.Prelude.{◌≡◌, ◌+◌, ◌*◌, ◌≤◌, ◌<◌, length, get_or, take, drop};
 ghost use Rattle.sheets.specs.Hashes.{folded, hash_from};
 
 // The largest prime below 2^55: 258 times it fits 64 bits.
@@ -33,7 +33,9 @@ pub(crate) fn two(sheet: &[u8], at: usize) -> u16 {
 }
 
 // The same as a size or a place.
-pub(crate) fn number(sheet: &[u8], at: usize) -> usize {
+pub(crate) fn number(sheet: &[u8], at: usize) -> usize
+    ensures { result < 65536 }
+{
     usize::from(two(sheet, at))
 }
 

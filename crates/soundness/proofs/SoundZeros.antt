@@ -50,7 +50,7 @@ module _ (f : ℕ → Bool) (w at n : ℕ) (d : List ℕ) (z : (i : ℕ) → n �
       let e : at + w * (n + k) ≡ at + w * n + w * k = omega (arith, mul-add w n k) in
       rw (add-suc, mul-suc, zeros_cut (at + w * n) d (w * k) w, rows h k, z (n + k) (omega arith), e)
 
-  rest_zeros : all_below n f ≡ true → (m : ℕ) → n ≤ m → all_below m f ≡ zeros_at (w * (m - n)) (at + w * n) d
+  pub rest_zeros : all_below n f ≡ true → (m : ℕ) → n ≤ m → all_below m f ≡ zeros_at (w * (m - n)) (at + w * n) d
   rest_zeros h m l = let e : n + (m - n) ≡ m = omega arith in rw e at (rows h (m - n))
 
   -- at once: the rows below n, and zeros

@@ -1,7 +1,10 @@
 -- The two functions meet their contracts: one law for each way out. They end because pairs not yet met fall: from unknowns to
 -- parts a pair is met, and from parts to unknowns none is lost.
+use mathlib.Core.Path.{◌≡◌}
 use borrow.Author.Rules.{rules}
+use borrow.Author.Tests.{eq-eqb, ne_eqb}
 use native.Mathlib.Omega.{arith}
+use Rattle.std.specs.Prelude.{Err}
 use Rattle.agreement.proofs.Ranges.{ended_record, part_unknown, part_few}
 use Rattle.agreement.proofs.AgreementLaws.{ends_compared, right_ends_open, heads_apart, same_counted, parts_compared, new_pair_falls, none_compared, settled_compared, part_differs, one_more_compared, all_compared}
 use Rattle.agreement.proofs.+agree_parts_agree_unknowns.Goals as goal
@@ -17,7 +20,9 @@ pub agree_parts-agree_unknowns-requires : goal.agree_parts-agree_unknowns-requir
 agree_parts-agree_unknowns-requires t c = (omega arith, (search part_unknown, search part_unknown, search rules))
 
 pub agree_parts-returns-in_err-next : goal.agree_parts-returns-in_err-next
-agree_parts-returns-in_err-next t c = rw c.from_residual.ensures (search (part_differs, c.in_err-next.ensures))
+agree_parts-returns-in_err-next t c =
+    let x : c.from_residual.result ≡ Err c.in_err-next.field-0.0 = search rules in
+    rw x (search (part_differs, c.in_err-next.ensures))
 
 pub agree_parts-loop-j-preserved : goal.agree_parts-loop-j-preserved
 agree_parts-loop-j-preserved t c =
@@ -26,8 +31,11 @@ agree_parts-loop-j-preserved t c =
 pub agree_parts-returns : goal.agree_parts-returns
 agree_parts-returns t c = search all_compared
 
-pub agree_unknowns-returns-then-a-v : goal.agree_unknowns-returns-then-a-v
-agree_unknowns-returns-then-a-v t c = search ends_compared
+pub agree_unknowns-returns-then-a-b : goal.agree_unknowns-returns-then-a-b
+agree_unknowns-returns-then-a-b t c = search (ends_compared, eq-eqb)
+
+pub agree_unknowns-returns-else-a-b : goal.agree_unknowns-returns-else-a-b
+agree_unknowns-returns-else-a-b t c = search (ends_compared, ne_eqb)
 
 pub agree_unknowns-returns-then-b-v : goal.agree_unknowns-returns-then-b-v
 agree_unknowns-returns-then-b-v t c = search right_ends_open

@@ -1,23 +1,32 @@
--- `append_parts`: after some turns the statements of the parts that are left make all of them, and there is room for these.
-use mathlib.Core.Logic.{inl, inr}
+-- `append_parts`: after some turns the statements of so many parts are there, and there is room for the rest.
+use mathlib.Core.Path.{◌≡◌, refl, ◌∙◌}
+use mathlib.Core.Logic.{inl}
+use Prim.Native.Nat.{◌-◌}
+use native.Mathlib.Omega.{arith}
+use lib.ListN.{length}
 use borrow.Author.Rules.{rules}
-use Rattle.effects.proofs.EffectLaws.{parts_room, parts_next, parts_over}
+use Rattle.base.proofs.Froms.{from_length}
+use Rattle.std.proofs.lemmas.List.{length_push}
+use Rattle.std.proofs.lemmas.Slice.Zip.{zip_turn, zip_end}
+use Rattle.effects.proofs.EffectLaws.{all_elements, room_less, parts_more, parts_over}
 use Rattle.effects.proofs.append_parts.Goals as goal
 
 pub loop-left-preserved : goal.loop-left-preserved
 loop-left-preserved c =
-    let s = c.in-Some.ensures.steps in
     let i = c.loop-left.invariant in
-    record {
+    let t = zip_turn c.args.lefts.now c.args.rights.now c.loop-left.yielded c.into_iter-left-iterator.result _ c.next.new.self _ (cc) (cc) c.loop-left.yielded_by _ c.in-Some.is c.next.ensures.steps in
+    let l = t.2 0 in
+    let r = t.3 0 in
+    rw (length_push c.loop-left.yielded (c.in-Some.left, c.in-Some.right))
+    (record {
       long = search rules;
-      left = parts_room _ _ _ _ _ _ _ _ _ s.0 s.1 c.append_item.ensures i.long i.left;
-      onward = parts_next _ _ _ _ _ _ _ _ _ s.0 s.1 c.append_item.ensures _ i.onward;
-    }
+      left = room_less _ _ _ _ _ i.long c.append_item.ensures i.left t.0;
+      onward = parts_more _ _ _ _ _ _ _ i.onward _ (c.append_item.ensures ∙ cc) t.0;
+    })
 
 pub returns : goal.returns
 returns c =
-    let o = c.loop-left.invariant.onward in
-    elim c.in-None.ensures.steps [
-      | inl h ↦ parts_over _ _ _ _ _ (inl h.1.0) o
-      | inr h ↦ parts_over _ _ _ _ _ (inr h.1.0) o
-    ]
+    let z = zip_end c.args.lefts.now c.args.rights.now c.loop-left.yielded c.into_iter-left-iterator.result _ c.next.new.self _ (cc) (cc) c.loop-left.yielded_by c.in-None.is c.next.ensures.steps in
+    let e : length c.args.lefts.now - length c.loop-left.yielded ≡ 0 = omega (arith, z, c.requires.1) in
+    parts_over _ _ _ _ _ (inl (from_length _ _ _ ∙ e)) c.loop-left.invariant.onward
+    ∙ rw (all_elements c.args.lefts.now _ refl, all_elements c.args.rights.now _ c.requires.1) refl

@@ -12,4 +12,4 @@ pub agree_unknowns-requires : goal.agree_unknowns-requires
 agree_unknowns-requires c = (search rules, search rules, none_settled _ _ _ c.new.ensures c.if-x-y.false)
 
 pub returns-else-x-y : goal.returns-else-x-y
-returns-else-x-y c = rw c.is_some.ensures (search asked_answers)
+returns-else-x-y c = rw c.is_ok.ensures.value (search asked_answers)
