@@ -17,7 +17,7 @@ fn ready_from(run: &Run, from: usize) -> usize
 {
     let n = layout::count(run);
     let mut start = from;
-    // Document 01 names this form: a loop gives the place by break, and its label leaves the inner scan. It goes round once.
+    // Document 01 names this form: a loop gives the place by break, and its label leaves the inner scan. It goes round at most once.
     'scan: loop {
         for place in start..n {
             if !rules::waits(run, place) {
