@@ -107,6 +107,14 @@ all_elements l n e =
     ext_get_or 0 (elements_from l n 0) l (from_length _ n 0 ∙ sym e)
     (λ k h. from_get_d _ n 0 k 0 (omega (arith, h, from_length (λ i. get_or l i 0) n 0)) ∙ ap (λ i. get_or l i 0) (zero-add k))
 
+-- the statement of the first parts that are left comes next, and there is room for the rest
+module _ (c p q : ℕ) (ps qs ps' qs' d e : List ℕ) (left : ps ≡ p ∷ ps') (right : qs ≡ q ∷ qs') (o : e ≡ appended (Statement c p q) d) where
+  pub parts_room : length d ≡ run_bytes → count_of d + length ps ≤ room → count_of e + length ps' ≤ room
+  parts_room l r = omega (arith, ap length left, ap count_of o, appended_count d (Statement c p q) l (omega (arith, ap length left)))
+
+  pub parts_next : (all : List ℕ) → all ≡ appended_all (part_statements c ps qs) d → all ≡ appended_all (part_statements c ps' qs') e
+  parts_next all inv = inv ∙ rw (left, right, o) refl
+
 -- the statements of two records' parts, shown once over their number: where k of n are there, one more comes
 module _ (c n : ℕ) (ps qs d₀ : List ℕ) where
   module _ (k : ℕ) (d : List ℕ)
@@ -114,9 +122,12 @@ module _ (c n : ℕ) (ps qs d₀ : List ℕ) where
     pub parts_more : (e : List ℕ) → e ≡ appended (Statement c (get_or ps k 0) (get_or qs k 0)) d → k < n
         → appended_all (part_statements c (elements_from ps n 0) (elements_from qs n 0)) d₀
         ≡ appended_all (part_statements c (elements_from ps (n - (k + 1)) (k + 1)) (elements_from qs (n - (k + 1)) (k + 1))) e
-    parts_more e q h =
-        let a : n - k ≡ suc (n - (k + 1)) = omega arith in
-        inv ∙ rw (a, q, add-one) refl
+    parts_more e q h = parts_next _ _ _ _ _ _ _ _ _ (first_left ps) (first_left qs) q _ inv
+      where
+        first_left : (l : List ℕ) → elements_from l (n - k) k ≡ get_or l k 0 ∷ elements_from l (n - (k + 1)) (k + 1)
+        first_left l =
+            let a : n - k ≡ suc (n - (k + 1)) = omega arith in
+            rw (a, add-one) refl
 
 -- where there are none left of one record, all are there
 pub parts_over : (c : ℕ) (ps qs d all : List ℕ) → (length ps ≡ 0) ⊎ (length qs ≡ 0) → all ≡ appended_all (part_statements c ps qs) d → d ≡ all
