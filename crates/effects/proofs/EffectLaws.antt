@@ -110,7 +110,7 @@ all_elements l n e =
 -- the statement of the first parts that are left comes next, and there is room for the rest
 module _ (c p q : ℕ) (ps qs ps' qs' d e : List ℕ) (left : ps ≡ p ∷ ps') (right : qs ≡ q ∷ qs') (o : e ≡ appended (Statement c p q) d) where
   pub parts_room : length d ≡ run_bytes → count_of d + length ps ≤ room → count_of e + length ps' ≤ room
-  parts_room l r = omega (arith, ap length left, ap count_of o, appended_count d (Statement c p q) l (omega (arith, ap length left)))
+  parts_room l r = omega (arith, ap length left, room_less d e (Statement c p q) 0 (length ps) l o (omega (arith, r)) (omega (arith, ap length left)))
 
   pub parts_next : (all : List ℕ) → all ≡ appended_all (part_statements c ps qs) d → all ≡ appended_all (part_statements c ps' qs') e
   parts_next all inv = inv ∙ rw (left, right, o) refl
